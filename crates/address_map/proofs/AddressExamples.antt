@@ -8,16 +8,23 @@ use Rattle.raid_params.specs.declared.types.Syndrome.TheVariants.{NoQ}
 use Rattle.raid_terms.specs.Address.{home_row, home_item, home_sector}
 use Rattle.raid_terms.specs.Role.{item_of}
 
-abbrev head : Head
-head = record { level = Raid5; members = 4; pattern = Ls; syndrome = NoQ; chunk = 2; offset = 0 }
+abbrev head : ℕ → Head
+head delay = record { level = Raid5; members = 4; pattern = Ls; delay = delay; syndrome = NoQ; chunk = 2; offset = 0 }
 
 -- the slot that holds a volume sector
-abbrev home_slot : ℕ → ℕ
-home_slot v = item_of head (home_row head v) (home_item head v)
+abbrev home_slot : Head → ℕ → ℕ
+home_slot head v = item_of head (home_row head v) (home_item head v)
 
 -- row 0: 0 1 2 P; row 1: 1 2 P 0
-slots : map home_slot (range_with_len 0 12) ≡ 0 ∷ 0 ∷ 1 ∷ 1 ∷ 2 ∷ 2 ∷ 3 ∷ 3 ∷ 0 ∷ 0 ∷ 1 ∷ 1 ∷ []
+slots : map (home_slot (head 1)) (range_with_len 0 12) ≡ 0 ∷ 0 ∷ 1 ∷ 1 ∷ 2 ∷ 2 ∷ 3 ∷ 3 ∷ 0 ∷ 0 ∷ 1 ∷ 1 ∷ []
 slots = refl
 
-sectors : map (home_sector head) (range_with_len 0 12) ≡ 0 ∷ 1 ∷ 0 ∷ 1 ∷ 0 ∷ 1 ∷ 2 ∷ 3 ∷ 2 ∷ 3 ∷ 2 ∷ 3 ∷ []
+sectors : map (home_sector (head 1)) (range_with_len 0 12) ≡ 0 ∷ 1 ∷ 0 ∷ 1 ∷ 0 ∷ 1 ∷ 2 ∷ 3 ∷ 2 ∷ 3 ∷ 2 ∷ 3 ∷ []
 sectors = refl
+
+-- with a delay of two rows, row 1 is as row 0, and sectors lie where they did
+delayed_slots : map (home_slot (head 2)) (range_with_len 0 12) ≡ 0 ∷ 0 ∷ 1 ∷ 1 ∷ 2 ∷ 2 ∷ 0 ∷ 0 ∷ 1 ∷ 1 ∷ 2 ∷ 2 ∷ []
+delayed_slots = refl
+
+delayed_sectors : map (home_sector (head 2)) (range_with_len 0 12) ≡ 0 ∷ 1 ∷ 0 ∷ 1 ∷ 0 ∷ 1 ∷ 2 ∷ 3 ∷ 2 ∷ 3 ∷ 2 ∷ 3 ∷ []
+delayed_sectors = refl

@@ -35,7 +35,7 @@ use Rattle.command_words.proofs.NameTexts.{same_name_decides}
 
 -- a set that has a word
 some_set : Wide
-some_set = common (record { head = record { level = Raid0; members = 1; pattern = Plain; syndrome = NoQ; chunk = 0; offset = 0 }; slots = record { items = None ∷ [] } })
+some_set = common (record { head = record { level = Raid0; members = 1; pattern = Plain; delay = 1; syndrome = NoQ; chunk = 0; offset = 0 }; slots = record { items = None ∷ [] } })
 
 abbrev IsSlot : Option ℕ → Type 0
 IsSlot slot = IfSome slot (λ image. image < MOST)
@@ -47,6 +47,8 @@ has_word = record {
   most = omega arith;
   members = refl;
   images = All-cons IsSlot None [] tt (All-nil IsSlot);
+  some_delay = omega arith;
+  delay = omega arith;
   chunk = omega arith;
   offset = omega arith;
 }

@@ -8,7 +8,7 @@ use Rattle.std.proofs.lemmas.List.{length-map}
 use Rattle.std.proofs.lemmas.List.Elements.{All-cons, All-nil}
 use Rattle.arrayvec.specs.ArrayVec.{ArrayVec}
 use Rattle.raid_params.specs.Validity.{is_chunk}
-use Rattle.raid_params.specs.declared.limits.TheConstants.{MOST, MOST_MISSING}
+use Rattle.raid_params.specs.declared.limits.TheConstants.{LONGEST_DELAY, MOST, MOST_DELAYS, MOST_MISSING}
 use Rattle.raid_params.specs.declared.wide.Wide.{Wide}
 use Rattle.near_mirror.specs.Heads.{are_copies}
 use Rattle.near_mirror.specs.Words.{HasNearWord}
@@ -19,7 +19,7 @@ use Rattle.value_text.specs.SetText.{HasWord}
 use Rattle.raid_params.specs.Places.{level_place, pattern_place, syndrome_place, AreRising}
 use Rattle.landmark_rules.specs.Tests.{AreTests}
 use Rattle.search_scope.specs.Scopes.{AreBounds}
-use Rattle.command_words.specs.Commands.{AreAsked, AreRelations, IsCommandLine, IsWithin, SaysAlone, bounds_of, can_move, chunks_or, command_of, drops_or, each_or, kinds_or, large_or, layouts_or, levels_or, members_or, mirror_in, mirrors_of, number_in, number_or, offsets_or, patterns_or, places_or, plain_survey, relations_of, sectors_or, set_in, survey_of, syndromes_or, tests_of, unit_of}
+use Rattle.command_words.specs.Commands.{AreAsked, AreRelations, IsCommandLine, IsWithin, SaysAlone, bounds_of, can_move, chunks_or, command_of, delays_or, drops_or, each_or, kinds_or, large_or, layouts_or, levels_or, members_or, mirror_in, mirrors_of, number_in, number_or, offsets_or, patterns_or, places_or, plain_survey, relations_of, sectors_or, set_in, survey_of, syndromes_or, tests_of, unit_of}
 use Rattle.mark_kinds.proofs.Asked.{among_some}
 use Rattle.mark_kinds.specs.Table.{group_place, some_asked}
 use Rattle.command_words.specs.Operands.{AreDrops, AreFitting, AreLayouts, IsFitting, IsValueOf, kind_of, layout_place, value_of}
@@ -29,8 +29,8 @@ use Rattle.command_words.specs.declared.command.Verb.{Verb}
 use Rattle.command_words.specs.declared.command.Verb.TheVariants.{Survey, List as ListVerb, Check, Map, Write, Rebuild, Sample, Classes, Mirrors, MirrorWrite, Salvage, Relations}
 use Rattle.command_words.specs.declared.operands.Operand.{Operand}
 use Rattle.command_words.specs.declared.table.Name.{Name}
-use Rattle.command_words.specs.declared.table.Name.TheVariants.{Levels as LevelsName, Members as MembersName, Patterns as PatternsName, Syndromes as SyndromesName, Chunks as ChunksName, Offsets as OffsetsName, Origins as OriginsName, Missing as MissingName, Foreign as ForeignName, Badrows as BadrowsName, Misfits as MisfitsName, Least as LeastName, Window as WindowName, End as EndName, Kinds as KindsName, Dropped as DropName, Size as SizeName, Span as SpanName, Pages as PagesName, Set as SetName, Slot as SlotName, Rows as RowsName, Images as ImagesName, Mode as ModeName, Logical as LogicalName, From as FromName, Step as StepName, Layouts as LayoutsName}
-use Rattle.command_words.specs.declared.table.ValueKind.TheVariants.{Number as NumberKind, Levels as LevelsKind, Members as MembersKind, Patterns as PatternsKind, Syndromes as SyndromesKind, Chunks as ChunksKind, Sectors as SectorsKind, Places as PlacesKind, Landmarks as LandmarksKind, Drops as DropsKind, Set as SetKind, Mirror as MirrorKind, Layouts as LayoutsKind}
+use Rattle.command_words.specs.declared.table.Name.TheVariants.{Levels as LevelsName, Members as MembersName, Patterns as PatternsName, Delays as DelaysName, Syndromes as SyndromesName, Chunks as ChunksName, Offsets as OffsetsName, Origins as OriginsName, Missing as MissingName, Foreign as ForeignName, Badrows as BadrowsName, Misfits as MisfitsName, Least as LeastName, Window as WindowName, End as EndName, Kinds as KindsName, Dropped as DropName, Size as SizeName, Span as SpanName, Pages as PagesName, Set as SetName, Slot as SlotName, Rows as RowsName, Images as ImagesName, Mode as ModeName, Logical as LogicalName, From as FromName, Step as StepName, Layouts as LayoutsName}
+use Rattle.command_words.specs.declared.table.ValueKind.TheVariants.{Number as NumberKind, Levels as LevelsKind, Members as MembersKind, Patterns as PatternsKind, Delays as DelaysKind, Syndromes as SyndromesKind, Chunks as ChunksKind, Sectors as SectorsKind, Places as PlacesKind, Landmarks as LandmarksKind, Drops as DropsKind, Set as SetKind, Mirror as MirrorKind, Layouts as LayoutsKind}
 use Rattle.command_words.specs.declared.table.ValueKind.{ValueKind}
 use Rattle.command_words.specs.declared.values.Value.{Value}
 use Rattle.command_words.proofs.LookUps.{fitting_value, number_below, number_within, operands_fit}
@@ -77,6 +77,17 @@ patterns_rise : (r : Option Value) → Fits r PatternsKind → AreRising (map pa
 unfolding rises
 patterns_rise None fits = are_rising (map pattern_place (patterns_or None).items) (lit≤ tt) refl
 patterns_rise (Some v) fits = let is = fits v refl in subst (λ w. AreRising (map pattern_place (patterns_or (Some w)).items)) (sym is.1) is.2.rising
+
+abbrev AreDelayed : List ℕ → Type 0
+AreDelayed ns = AreRising ns × (length ns ≤ MOST_DELAYS) × All (λ n. (1 ≤ n) × (n ≤ LONGEST_DELAY)) ns
+
+abbrev IsDelay : ℕ → Type 0
+IsDelay n = (1 ≤ n) × (n ≤ LONGEST_DELAY)
+
+delays_are : (r : Option Value) → Fits r DelaysKind → AreDelayed (delays_or r).items
+unfolding rises
+delays_are None fits = (are_rising (delays_or None).items (lit≤ tt) refl, lit≤ tt, All-cons IsDelay 1 [] (lit≤ tt, lit≤ tt) (All-nil IsDelay))
+delays_are (Some v) fits = let is = fits v refl in subst (λ w. AreDelayed (delays_or (Some w)).items) (sym is.1) is.2
 
 syndromes_rise : (r : Option Value) → Fits r SyndromesKind → AreRising (map syndrome_place (syndromes_or r).items)
 unfolding rises
@@ -154,6 +165,7 @@ fits_of verb os fit name v e = fitting_value verb name os v fit e
 
 bounds_are : (os : List Operand) → AreFitting Survey os → (members : ArrayVec ℕ) → AreMembers members.items → AreBounds (record (bounds_of os) { members = members })
 bounds_are os fit members are =
+    let delays = delays_are (value_of DelaysName os) (fits_of Survey os fit DelaysName) in
     let chunks = chunks_are (value_of ChunksName os) (fits_of Survey os fit ChunksName) in
     let offsets = sectors_are (0 ∷ 2048 ∷ 262144 ∷ 264192 ∷ []) (value_of OffsetsName os) offsets_are (fits_of Survey os fit OffsetsName) in
     record {
@@ -161,6 +173,9 @@ bounds_are os fit members are =
       members = are.0;
       few_members = are.1;
       patterns = patterns_rise (value_of PatternsName os) (fits_of Survey os fit PatternsName);
+      delays = delays.0;
+      few_delays = delays.1;
+      short_delays = delays.2;
       syndromes = syndromes_rise (value_of SyndromesName os) (fits_of Survey os fit SyndromesName);
       chunks = chunks.0;
       powers = chunks.1;

@@ -16,7 +16,7 @@ use Rattle.command_words.specs.declared.command.Verb.{Verb}
 use Rattle.command_words.specs.declared.command.Verb.TheVariants.{Survey, List as ListVerb, Check, Map, Write, Rebuild, Sample, Classes, Mirrors, MirrorWrite, Salvage, Relations}
 use Rattle.command_words.specs.declared.operands.Operand.{Operand}
 use Rattle.command_words.specs.declared.table.Name.{Name}
-use Rattle.command_words.specs.declared.table.Name.TheVariants.{Levels as LevelsName, Members as MembersName, Patterns as PatternsName, Syndromes as SyndromesName, Chunks as ChunksName, Offsets as OffsetsName, Origins as OriginsName, Missing as MissingName, Foreign as ForeignName, Badrows as BadrowsName, Misfits as MisfitsName, Least as LeastName, Window as WindowName, End as EndName, Kinds as KindsName, Dropped as DropName, From as FromName, Size as SizeName, Span as SpanName, Pages as PagesName, Form as FormName, Set as SetName, Sector as SectorName, Slot as SlotName, Number as NumberName, Rows as RowsName, Marks as MarksName, Images as ImagesName, Mode as ModeName, Logical as LogicalName, Step as StepName, Layouts as LayoutsName}
+use Rattle.command_words.specs.declared.table.Name.TheVariants.{Levels as LevelsName, Members as MembersName, Patterns as PatternsName, Delays as DelaysName, Syndromes as SyndromesName, Chunks as ChunksName, Offsets as OffsetsName, Origins as OriginsName, Missing as MissingName, Foreign as ForeignName, Badrows as BadrowsName, Misfits as MisfitsName, Least as LeastName, Window as WindowName, End as EndName, Kinds as KindsName, Dropped as DropName, From as FromName, Size as SizeName, Span as SpanName, Pages as PagesName, Form as FormName, Set as SetName, Sector as SectorName, Slot as SlotName, Number as NumberName, Rows as RowsName, Marks as MarksName, Images as ImagesName, Mode as ModeName, Logical as LogicalName, Step as StepName, Layouts as LayoutsName}
 use Rattle.command_words.proofs.LookUps.{names_in, none_named}
 use Rattle.command_words.proofs.NameTexts.{same_name_decides, same_name_equiv}
 use Rattle.command_words.proofs.Spelled.{one_operand}
@@ -25,6 +25,7 @@ no_dashes : (name : Name) (value : List ℕ) → bytes_eq (name_text name ++ 61 
 no_dashes LevelsName value = refl
 no_dashes MembersName value = refl
 no_dashes PatternsName value = refl
+no_dashes DelaysName value = refl
 no_dashes SyndromesName value = refl
 no_dashes ChunksName value = refl
 no_dashes OffsetsName value = refl
@@ -198,7 +199,7 @@ fresh_name (x ∷ os) o more once =
     let later = fresh_name os o more (IsDistinct-tail same_name x.name (names_in (os ++ o ∷ more)) once) in
     ap (λ b. cond b (Some x.value) (value_of o.name os)) here ∙ later
 
-few_names : (verb : Verb) → length (operands_of verb) ≤ 18
+few_names : (verb : Verb) → length (operands_of verb) ≤ 19
 few_names Survey = omega arith
 few_names ListVerb = omega arith
 few_names Check = omega arith
@@ -218,7 +219,7 @@ taken_name verb os all =
     (All-weaker (IsOperand verb) (λ operand. is_member same_name (operands_of verb) operand.name ≡ true) (λ o is. (is_member-Decides same_name_decides (operands_of verb) o.name).1 is.taken) os all)
 
 -- a command takes so few operands
-pub few_operands : (verb : Verb) (os : List Operand) → AreOperands verb os → length os ≤ 18
+pub few_operands : (verb : Verb) (os : List Operand) → AreOperands verb os → length os ≤ 19
 few_operands verb os are =
     let within = length-le_from_is_member same_name_equiv (names_in os) (operands_of verb) are.once
     (λ q is. All-contains (λ name. is_member same_name (operands_of verb) name ≡ true) (names_in os) q (taken_name verb os are.each) ((is_member-Decides same_name_decides (names_in os) q).0 is)) in

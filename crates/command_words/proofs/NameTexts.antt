@@ -11,7 +11,7 @@ use Rattle.command_words.specs.Operands.{form_kind, kind_of, most_from, most_mis
 use Rattle.command_words.specs.declared.command.Verb.{Verb}
 use Rattle.command_words.specs.declared.command.Verb.TheVariants.{Mirrors, MirrorWrite, Salvage, Relations}
 use Rattle.command_words.specs.declared.table.Name.{Name}
-use Rattle.command_words.specs.declared.table.Name.TheVariants.{Levels as LevelsName, Members as MembersName, Patterns as PatternsName, Syndromes as SyndromesName, Chunks as ChunksName, Offsets as OffsetsName, Origins as OriginsName, Missing as MissingName, Foreign as ForeignName, Badrows as BadrowsName, Misfits as MisfitsName, Least as LeastName, Window as WindowName, End as EndName, Kinds as KindsName, Dropped as DropName, From as FromName, Size as SizeName, Span as SpanName, Pages as PagesName, Form as FormName, Set as SetName, Sector as SectorName, Slot as SlotName, Number as NumberName, Rows as RowsName, Marks as MarksName, Images as ImagesName, Mode as ModeName, Logical as LogicalName, Step as StepName, Layouts as LayoutsName}
+use Rattle.command_words.specs.declared.table.Name.TheVariants.{Levels as LevelsName, Members as MembersName, Patterns as PatternsName, Delays as DelaysName, Syndromes as SyndromesName, Chunks as ChunksName, Offsets as OffsetsName, Origins as OriginsName, Missing as MissingName, Foreign as ForeignName, Badrows as BadrowsName, Misfits as MisfitsName, Least as LeastName, Window as WindowName, End as EndName, Kinds as KindsName, Dropped as DropName, From as FromName, Size as SizeName, Span as SpanName, Pages as PagesName, Form as FormName, Set as SetName, Sector as SectorName, Slot as SlotName, Number as NumberName, Rows as RowsName, Marks as MarksName, Images as ImagesName, Mode as ModeName, Logical as LogicalName, Step as StepName, Layouts as LayoutsName}
 use Rattle.command_words.specs.declared.table.ValueKind.{ValueKind}
 use Rattle.command_words.specs.declared.table.ValueKind.TheVariants.{Number as NumberKind}
 
@@ -29,6 +29,7 @@ pub plain_name : (n : Name) → All (λ x. x ≢ 61) (name_text n)
 plain_name LevelsName = no_equals (name_text LevelsName) refl
 plain_name MembersName = no_equals (name_text MembersName) refl
 plain_name PatternsName = no_equals (name_text PatternsName) refl
+plain_name DelaysName = no_equals (name_text DelaysName) refl
 plain_name SyndromesName = no_equals (name_text SyndromesName) refl
 plain_name ChunksName = no_equals (name_text ChunksName) refl
 plain_name OffsetsName = no_equals (name_text OffsetsName) refl
@@ -61,7 +62,7 @@ plain_name LayoutsName = no_equals (name_text LayoutsName) refl
 
 -- all names
 all_names : List Name
-all_names = LevelsName ∷ MembersName ∷ PatternsName ∷ SyndromesName ∷ ChunksName ∷ OffsetsName ∷ OriginsName ∷ MissingName ∷ ForeignName ∷ BadrowsName ∷ MisfitsName ∷ LeastName ∷ WindowName ∷ EndName ∷ KindsName ∷ DropName ∷ FromName ∷ SizeName ∷ SpanName ∷ PagesName ∷ FormName ∷ SetName ∷ SectorName ∷ SlotName ∷ NumberName ∷ RowsName ∷ MarksName ∷ ImagesName ∷ ModeName ∷ LogicalName ∷ StepName ∷ LayoutsName ∷ []
+all_names = LevelsName ∷ MembersName ∷ PatternsName ∷ DelaysName ∷ SyndromesName ∷ ChunksName ∷ OffsetsName ∷ OriginsName ∷ MissingName ∷ ForeignName ∷ BadrowsName ∷ MisfitsName ∷ LeastName ∷ WindowName ∷ EndName ∷ KindsName ∷ DropName ∷ FromName ∷ SizeName ∷ SpanName ∷ PagesName ∷ FormName ∷ SetName ∷ SectorName ∷ SlotName ∷ NumberName ∷ RowsName ∷ MarksName ∷ ImagesName ∷ ModeName ∷ LogicalName ∷ StepName ∷ LayoutsName ∷ []
 
 -- the name that a text is
 named_by : List ℕ → Option Name
@@ -72,6 +73,7 @@ unfolding named_by all_names
 is_named LevelsName = refl
 is_named MembersName = refl
 is_named PatternsName = refl
+is_named DelaysName = refl
 is_named SyndromesName = refl
 is_named ChunksName = refl
 is_named OffsetsName = refl
@@ -143,6 +145,7 @@ pub short_kind : (verb : Verb) (n : Name) → IsShort (kind_of verb n)
 short_kind verb LevelsName = tt
 short_kind verb MembersName = tt
 short_kind verb PatternsName = tt
+short_kind verb DelaysName = tt
 short_kind verb SyndromesName = tt
 short_kind verb ChunksName = tt
 short_kind verb OffsetsName = short_offsets verb

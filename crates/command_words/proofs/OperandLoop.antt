@@ -48,7 +48,7 @@ pub none_given : {A : Type 0} (now : A → Value) (found : Option A) (r : Option
 none_given now None r b h test e = h
 none_given now (Some v) r b h test e = absurd (false≢true (sym e ∙ test))
 
-pub room : (verb : Verb) (os : List Operand) (o : Operand) → AreOperands verb os → IsOperand verb o → value_of o.name os ≡ None → length os + 1 ≤ 18
+pub room : (verb : Verb) (os : List Operand) (o : Operand) → AreOperands verb os → IsOperand verb o → value_of o.name os ≡ None → length os + 1 ≤ 19
 room verb os o are is fresh =
     let few = few_operands verb (os ++ o ∷ []) (once_more verb os o are is fresh) in
     let long = length-append os (o ∷ []) in

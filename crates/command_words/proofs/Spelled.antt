@@ -11,7 +11,7 @@ use Rattle.value_text.specs.NameLaws.{byte_law, in_lists, level_law, number_law,
 use Rattle.landmark_text.specs.KindLaws.{group_law}
 use Rattle.value_text.specs.Spelling.{level_name, pattern_name, syndrome_name}
 use Rattle.landmark_text.specs.Names.{IsDrop, drop_name, drop_place, group_name}
-use Rattle.value_text.proofs.Fits.{chunks_are_short, members_are_bytes, offsets_are_short}
+use Rattle.value_text.proofs.Fits.{chunks_are_short, delays_are_short, members_are_bytes, offsets_are_short}
 use Rattle.value_text.proofs.Lists.{some_value}
 use Rattle.value_text.proofs.SetWords.{one_spelling}
 use Rattle.near_mirror.proofs.NearWords.{one_spelling as one_near_spelling}
@@ -32,9 +32,9 @@ use Rattle.mark_kinds.specs.declared.groups.GroupKind.{GroupKind}
 use Rattle.command_words.specs.declared.operands.Operand.{Operand}
 use Rattle.command_words.specs.declared.table.Name.{Name}
 use Rattle.command_words.specs.declared.table.ValueKind.{ValueKind}
-use Rattle.command_words.specs.declared.table.ValueKind.TheVariants.{Number as NumberKind, Levels as LevelsKind, Members as MembersKind, Patterns as PatternsKind, Syndromes as SyndromesKind, Chunks as ChunksKind, Sectors as SectorsKind, Places as PlacesKind, Landmarks as LandmarksKind, Drops as DropsKind, Form as FormKind, Salvaged as SalvagedKind, Marks as MarksKind, Set as SetKind, Mirror as MirrorKind, Layouts as LayoutsKind, Mode as ModeKind, Logical as LogicalKind}
+use Rattle.command_words.specs.declared.table.ValueKind.TheVariants.{Number as NumberKind, Levels as LevelsKind, Members as MembersKind, Patterns as PatternsKind, Delays as DelaysKind, Syndromes as SyndromesKind, Chunks as ChunksKind, Sectors as SectorsKind, Places as PlacesKind, Landmarks as LandmarksKind, Drops as DropsKind, Form as FormKind, Salvaged as SalvagedKind, Marks as MarksKind, Set as SetKind, Mirror as MirrorKind, Layouts as LayoutsKind, Mode as ModeKind, Logical as LogicalKind}
 use Rattle.command_words.specs.declared.values.Value.{Value}
-use Rattle.command_words.specs.declared.values.Value.TheVariants.{Number, Levels, Members, Patterns, Syndromes, Chunks, Sectors, Places, Landmarks, Drops, Form as FormValue, Salvaged, Marks, Set, Mirror, Layouts, Mode, Logical}
+use Rattle.command_words.specs.declared.values.Value.TheVariants.{Number, Levels, Members, Patterns, Delays, Syndromes, Chunks, Sectors, Places, Landmarks, Drops, Form as FormValue, Salvaged, Marks, Set, Mirror, Layouts, Mode, Logical}
 use Rattle.command_words.proofs.NameTexts.{IsShort, one_name, plain_name, short_kind}
 
 -- two texts that are cut at the first `=` are the same where their parts are
@@ -125,6 +125,9 @@ one_value MembersKind short v w a b e =
 one_value PatternsKind short v w a b e =
     let same = same_list pattern_name (λ x. Unit {0}) (in_lists pattern_name (λ x. Unit {0}) pattern_law) a.0.items b.0.items (some_value pattern_place a.0.items a.2.rising) (some_value pattern_place b.0.items b.2.rising) (λ k d lt. tt) (λ k d lt. tt) (texts (λ xs. Patterns xs) a.0 b.0 v w a.1 b.1 e) in
     same_held (λ (xs : List Pattern). Patterns (record { items = xs })) a.0.items b.0.items v w a.1 b.1 same
+one_value DelaysKind short v w a b e =
+    let same = same_list decimal (λ n. n < 2 ^ 64) (in_lists decimal (λ n. n < 2 ^ 64) number_law) a.0.items b.0.items a.2.0.some b.2.0.some (delays_are_short a.0.items a.2.2) (delays_are_short b.0.items b.2.2) (texts (λ ns. Delays ns) a.0 b.0 v w a.1 b.1 e) in
+    same_held (λ (ns : List ℕ). Delays (record { items = ns })) a.0.items b.0.items v w a.1 b.1 same
 one_value SyndromesKind short v w a b e =
     let same = same_list syndrome_name (λ x. Unit {0}) (in_lists syndrome_name (λ x. Unit {0}) syndrome_law) a.0.items b.0.items (some_value syndrome_place a.0.items a.2.rising) (some_value syndrome_place b.0.items b.2.rising) (λ k d lt. tt) (λ k d lt. tt) (texts (λ xs. Syndromes xs) a.0 b.0 v w a.1 b.1 e) in
     same_held (λ (xs : List Syndrome). Syndromes (record { items = xs })) a.0.items b.0.items v w a.1 b.1 same

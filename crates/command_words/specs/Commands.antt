@@ -36,9 +36,9 @@ use Rattle.command_words.specs.declared.command.SurveyWords.{SurveyWords}
 use Rattle.command_words.specs.declared.command.Verb.{Verb}
 use Rattle.command_words.specs.declared.command.Verb.TheVariants.{Survey, List as ListVerb, Check, Map, Write, Rebuild, Sample, Classes, Mirrors, MirrorWrite, Salvage, Relations}
 use Rattle.command_words.specs.declared.operands.Operand.{Operand}
-use Rattle.command_words.specs.declared.table.Name.TheVariants.{Levels as LevelsName, Members as MembersName, Patterns as PatternsName, Syndromes as SyndromesName, Chunks as ChunksName, Offsets as OffsetsName, Origins as OriginsName, Missing as MissingName, Foreign as ForeignName, Badrows as BadrowsName, Misfits as MisfitsName, Least as LeastName, Window as WindowName, End as EndName, Kinds as KindsName, Dropped as DropName, From as FromName, Size as SizeName, Span as SpanName, Pages as PagesName, Form as FormName, Set as SetName, Sector as SectorName, Slot as SlotName, Number as NumberName, Rows as RowsName, Marks as MarksName, Images as ImagesName, Mode as ModeName, Logical as LogicalName, Step as StepName, Layouts as LayoutsName}
+use Rattle.command_words.specs.declared.table.Name.TheVariants.{Levels as LevelsName, Members as MembersName, Patterns as PatternsName, Delays as DelaysName, Syndromes as SyndromesName, Chunks as ChunksName, Offsets as OffsetsName, Origins as OriginsName, Missing as MissingName, Foreign as ForeignName, Badrows as BadrowsName, Misfits as MisfitsName, Least as LeastName, Window as WindowName, End as EndName, Kinds as KindsName, Dropped as DropName, From as FromName, Size as SizeName, Span as SpanName, Pages as PagesName, Form as FormName, Set as SetName, Sector as SectorName, Slot as SlotName, Number as NumberName, Rows as RowsName, Marks as MarksName, Images as ImagesName, Mode as ModeName, Logical as LogicalName, Step as StepName, Layouts as LayoutsName}
 use Rattle.command_words.specs.declared.values.Value.{Value}
-use Rattle.command_words.specs.declared.values.Value.TheVariants.{Number, Levels, Members, Patterns, Syndromes, Chunks, Sectors, Places, Landmarks, Drops, Form as FormValue, Salvaged, Marks, Set, Mirror, Layouts, Mode, Logical}
+use Rattle.command_words.specs.declared.values.Value.TheVariants.{Number, Levels, Members, Patterns, Delays, Syndromes, Chunks, Sectors, Places, Landmarks, Drops, Form as FormValue, Salvaged, Marks, Set, Mirror, Layouts, Mode, Logical}
 
 -- the word of a command
 abbrev pub verb_word : Verb → List ℕ
@@ -87,6 +87,10 @@ members_or _ = record { items = [] }
 abbrev pub patterns_or : Option Value → ArrayVec Pattern
 patterns_or (Some (Patterns xs)) = xs
 patterns_or _ = record { items = Plain ∷ La ∷ Ra ∷ Ls ∷ Rs ∷ ParityFirst ∷ ParityLast ∷ NRestart ∷ NContinue ∷ La6 ∷ Ra6 ∷ Ls6 ∷ Rs6 ∷ ParityFirst6 ∷ [] }
+
+abbrev pub delays_or : Option Value → ArrayVec ℕ
+delays_or (Some (Delays ns)) = ns
+delays_or _ = record { items = 1 ∷ [] }
 
 abbrev pub syndromes_or : Option Value → ArrayVec Syndrome
 syndromes_or (Some (Syndromes xs)) = xs
@@ -150,6 +154,7 @@ bounds_of operands = record {
   levels = levels_or (value_of LevelsName operands);
   members = members_or (value_of MembersName operands);
   patterns = patterns_or (value_of PatternsName operands);
+  delays = delays_or (value_of DelaysName operands);
   syndromes = syndromes_or (value_of SyndromesName operands);
   chunks = chunks_or (value_of ChunksName operands);
   offsets = offsets_or (value_of OffsetsName operands);

@@ -17,7 +17,7 @@ use Rattle.near_mirror.specs.declared.types.Copying.{Copying}
 use Rattle.near_mirror.specs.declared.types.Copying.TheVariants.{Near, Far, Offset}
 use Rattle.near_mirror.specs.declared.types.NearSet.{NearSet}
 use Rattle.value_text.specs.SetText.{HasWord, set_word}
-use Rattle.value_text.specs.Bounded.{AreChunks, AreMembers, ArePlaces, AreSectors}
+use Rattle.value_text.specs.Bounded.{AreChunks, AreDelays, AreMembers, ArePlaces, AreSectors}
 use Rattle.value_text.specs.Spelling.{level_name, pattern_name, syndrome_name, commas, pluses}
 use Rattle.landmark_text.specs.Names.{IsDrop, group_name, drop_name, drop_place}
 use Rattle.raid_params.specs.Places.{level_place, pattern_place, syndrome_place, AreRising}
@@ -31,16 +31,17 @@ use Rattle.command_words.specs.declared.command.Verb.TheVariants.{Survey, List a
 use Rattle.mark_kinds.specs.declared.groups.GroupKind.{GroupKind}
 use Rattle.command_words.specs.declared.operands.Operand.{Operand}
 use Rattle.command_words.specs.declared.table.Name.{Name}
-use Rattle.command_words.specs.declared.table.Name.TheVariants.{Levels as LevelsName, Members as MembersName, Patterns as PatternsName, Syndromes as SyndromesName, Chunks as ChunksName, Offsets as OffsetsName, Origins as OriginsName, Missing as MissingName, Foreign as ForeignName, Badrows as BadrowsName, Misfits as MisfitsName, Least as LeastName, Window as WindowName, End as EndName, Kinds as KindsName, Dropped as DropName, From as FromName, Size as SizeName, Span as SpanName, Pages as PagesName, Form as FormName, Set as SetName, Sector as SectorName, Slot as SlotName, Number as NumberName, Rows as RowsName, Marks as MarksName, Images as ImagesName, Mode as ModeName, Logical as LogicalName, Step as StepName, Layouts as LayoutsName}
+use Rattle.command_words.specs.declared.table.Name.TheVariants.{Levels as LevelsName, Members as MembersName, Patterns as PatternsName, Delays as DelaysName, Syndromes as SyndromesName, Chunks as ChunksName, Offsets as OffsetsName, Origins as OriginsName, Missing as MissingName, Foreign as ForeignName, Badrows as BadrowsName, Misfits as MisfitsName, Least as LeastName, Window as WindowName, End as EndName, Kinds as KindsName, Dropped as DropName, From as FromName, Size as SizeName, Span as SpanName, Pages as PagesName, Form as FormName, Set as SetName, Sector as SectorName, Slot as SlotName, Number as NumberName, Rows as RowsName, Marks as MarksName, Images as ImagesName, Mode as ModeName, Logical as LogicalName, Step as StepName, Layouts as LayoutsName}
 use Rattle.command_words.specs.declared.table.ValueKind.{ValueKind}
-use Rattle.command_words.specs.declared.table.ValueKind.TheVariants.{Number as NumberKind, Levels as LevelsKind, Members as MembersKind, Patterns as PatternsKind, Syndromes as SyndromesKind, Chunks as ChunksKind, Sectors as SectorsKind, Places as PlacesKind, Landmarks as LandmarksKind, Drops as DropsKind, Form as FormKind, Salvaged as SalvagedKind, Marks as MarksKind, Set as SetKind, Mirror as MirrorKind, Layouts as LayoutsKind, Mode as ModeKind, Logical as LogicalKind}
+use Rattle.command_words.specs.declared.table.ValueKind.TheVariants.{Number as NumberKind, Levels as LevelsKind, Members as MembersKind, Patterns as PatternsKind, Delays as DelaysKind, Syndromes as SyndromesKind, Chunks as ChunksKind, Sectors as SectorsKind, Places as PlacesKind, Landmarks as LandmarksKind, Drops as DropsKind, Form as FormKind, Salvaged as SalvagedKind, Marks as MarksKind, Set as SetKind, Mirror as MirrorKind, Layouts as LayoutsKind, Mode as ModeKind, Logical as LogicalKind}
 use Rattle.command_words.specs.declared.values.Value.{Value}
-use Rattle.command_words.specs.declared.values.Value.TheVariants.{Number, Levels, Members, Patterns, Syndromes, Chunks, Sectors, Places, Landmarks, Drops, Form as FormValue, Salvaged, Marks, Set, Mirror, Layouts, Mode, Logical}
+use Rattle.command_words.specs.declared.values.Value.TheVariants.{Number, Levels, Members, Patterns, Delays, Syndromes, Chunks, Sectors, Places, Landmarks, Drops, Form as FormValue, Salvaged, Marks, Set, Mirror, Layouts, Mode, Logical}
 
 abbrev pub name_text : Name → List ℕ
 name_text LevelsName = codes "levels"
 name_text MembersName = codes "members"
 name_text PatternsName = codes "patterns"
+name_text DelaysName = codes "delays"
 name_text SyndromesName = codes "syndromes"
 name_text ChunksName = codes "chunks"
 name_text OffsetsName = codes "offsets"
@@ -101,6 +102,7 @@ abbrev pub kind_of : Verb → Name → ValueKind
 kind_of _ LevelsName = LevelsKind
 kind_of _ MembersName = MembersKind
 kind_of _ PatternsName = PatternsKind
+kind_of _ DelaysName = DelaysKind
 kind_of _ SyndromesName = SyndromesKind
 kind_of _ ChunksName = ChunksKind
 kind_of verb OffsetsName = offsets_kind verb
@@ -133,7 +135,7 @@ kind_of _ LayoutsName = LayoutsKind
 
 -- the operands that a command takes
 abbrev pub operands_of : Verb → List Name
-operands_of Survey = LevelsName ∷ MembersName ∷ PatternsName ∷ SyndromesName ∷ ChunksName ∷ OffsetsName ∷ OriginsName ∷ MissingName ∷ ForeignName ∷ BadrowsName ∷ MisfitsName ∷ LeastName ∷ WindowName ∷ EndName ∷ KindsName ∷ DropName ∷ ModeName ∷ LogicalName ∷ []
+operands_of Survey = LevelsName ∷ MembersName ∷ PatternsName ∷ DelaysName ∷ SyndromesName ∷ ChunksName ∷ OffsetsName ∷ OriginsName ∷ MissingName ∷ ForeignName ∷ BadrowsName ∷ MisfitsName ∷ LeastName ∷ WindowName ∷ EndName ∷ KindsName ∷ DropName ∷ ModeName ∷ LogicalName ∷ []
 operands_of ListVerb = FromName ∷ SizeName ∷ SpanName ∷ PagesName ∷ FormName ∷ []
 operands_of Check = SetName ∷ []
 operands_of Map = SetName ∷ SectorName ∷ EndName ∷ []
@@ -200,6 +202,7 @@ IsValueOf value (NumberKind least most) = (n : ℕ) × (value ≡ Number n) × (
 IsValueOf value LevelsKind = (xs : ArrayVec Level) × (value ≡ Levels xs) × IsList level_place MOST_LEVELS xs.items
 IsValueOf value MembersKind = (ns : ArrayVec ℕ) × (value ≡ Members ns) × AreMembers ns.items
 IsValueOf value PatternsKind = (xs : ArrayVec Pattern) × (value ≡ Patterns xs) × IsList pattern_place MOST_PATTERNS xs.items
+IsValueOf value DelaysKind = (ns : ArrayVec ℕ) × (value ≡ Delays ns) × AreDelays ns.items
 IsValueOf value SyndromesKind = (xs : ArrayVec Syndrome) × (value ≡ Syndromes xs) × IsList syndrome_place MOST_SYNDROMES xs.items
 IsValueOf value ChunksKind = (ns : ArrayVec ℕ) × (value ≡ Chunks ns) × AreChunks ns.items
 IsValueOf value SectorsKind = (ns : ArrayVec ℕ) × (value ≡ Sectors ns) × AreSectors 64 ns.items
@@ -221,6 +224,7 @@ value_text (Number n) = decimal n
 value_text (Levels xs) = commas (map level_name xs.items)
 value_text (Members ns) = commas (map decimal ns.items)
 value_text (Patterns xs) = commas (map pattern_name xs.items)
+value_text (Delays ns) = commas (map decimal ns.items)
 value_text (Syndromes xs) = commas (map syndrome_name xs.items)
 value_text (Chunks ns) = commas (map decimal ns.items)
 value_text (Sectors ns) = commas (map decimal ns.items)

@@ -1,7 +1,7 @@
 //! The commands, from their operands and defaults.
 ghost use Rattle.std.specs.Prelude.{◌≡◌, ◌≤◌, ◌<◌, ◌^◌, IfSome, Some, length, nat_lt};
 ghost use Rattle.std.specs.List.{list_all};
-ghost use Rattle.command_words.specs.Commands.{AreAsked, plain_survey as plain_survey_words, bounds_of, can_move as can_move_with, chunks_or, command_of, drops_or, each_or, form_or, large_or, kinds_or, layouts_or, levels_or, lost_or, marks_or, members_or, mirror_in, number_in, patterns_or, places_or, relations_of, sectors_or, set_in, survey_of, syndromes_or, tests_of, unit_of};
+ghost use Rattle.command_words.specs.Commands.{AreAsked, plain_survey as plain_survey_words, bounds_of, can_move as can_move_with, chunks_or, command_of, delays_or, drops_or, each_or, form_or, large_or, kinds_or, layouts_or, levels_or, lost_or, marks_or, members_or, mirror_in, number_in, patterns_or, places_or, relations_of, sectors_or, set_in, survey_of, syndromes_or, tests_of, unit_of};
 ghost use Rattle.command_words.specs.Operands.{AreFitting, value_of};
 ghost use Rattle.command_words.specs.Steps.{can_go_on as can_go_on_with, lines_fit};
 
@@ -14,8 +14,8 @@ use landmark_rules::MarkTests;
 use mark_kinds::{DropAt, Kinds, MOST_DROPS};
 use near_mirror::{CopyLayout, Copying, NearSet};
 use raid_params::{
-    Bounds, Geometry, Level, MOST_CHUNKS, MOST_LESS_ONE, MOST_LEVELS, MOST_OFFSETS, MOST_PATTERNS,
-    MOST_SYNDROMES, Pattern, Syndrome, Wide,
+    Bounds, Geometry, Level, MOST_CHUNKS, MOST_DELAYS, MOST_LESS_ONE, MOST_LEVELS, MOST_OFFSETS,
+    MOST_PATTERNS, MOST_SYNDROMES, Pattern, Syndrome, Wide,
 };
 use value_text::{LEVELS, PATTERNS, SYNDROMES};
 
@@ -41,6 +41,9 @@ const LAYOUTS: [CopyLayout; 1] = [CopyLayout {
     copying: Copying::Near,
     copies: 2,
 }];
+
+/// The delays that are tried where `delays` is not given: parity moves with each row.
+const DELAYS: [u64; 1] = [1];
 
 /// Offsets that are tried for each image alone are below this: 2^54.
 const OWN_OFFSETS_END: u64 = 1 << 54;
@@ -254,6 +257,7 @@ fn bounds(operands: &[Operand]) -> Bounds
         levels: levels(operands),
         members: members(operands),
         patterns: patterns(operands),
+        delays: delays(operands),
         syndromes: syndromes(operands),
         chunks: chunks(operands),
         offsets: sectors(operands, Name::Offsets, &OFFSETS),
@@ -325,6 +329,17 @@ fn patterns(operands: &[Operand]) -> ArrayVec<Pattern, MOST_PATTERNS>
         list_of(patterns)
     } else {
         list_of(&PATTERNS)
+    }
+}
+
+/// One where `delays` is not given: the parity of the layouts of md moves with each row.
+fn delays(operands: &[Operand]) -> ArrayVec<u64, MOST_DELAYS>
+    ensures { result ≡ delays_or (value_of Name.Delays operands.now) }
+{
+    if let Some(Value::Delays(delays)) = find_value(operands, Name::Delays) {
+        list_of(delays)
+    } else {
+        list_of(&DELAYS)
     }
 }
 

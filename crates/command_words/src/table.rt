@@ -16,7 +16,7 @@ pub const MOST_PAGES: u64 = 1_000_000;
 pub const MOST_ROWS: u64 = 65_536;
 
 /// The most operands that a command takes.
-pub const MOST_OPERANDS: usize = 18;
+pub const MOST_OPERANDS: usize = 19;
 
 /// The most empty slots of a mirror: all but one. Which of them leave each chunk a copy depends on the layout.
 const MOST_MISSING_OF_MIRRORS: u64 = MOST as u64 - 1;
@@ -30,6 +30,8 @@ pub enum Name {
     Members,
     /// The patterns to try.
     Patterns,
+    /// The numbers of rows to try for which parity stays.
+    Delays,
     /// The orders of Q to try.
     Syndromes,
     /// The chunks to try, in sectors.
@@ -106,6 +108,8 @@ pub enum ValueKind {
     Members,
     /// Patterns.
     Patterns,
+    /// Numbers of rows for which parity stays.
+    Delays,
     /// Orders of Q.
     Syndromes,
     /// Chunks.
@@ -140,6 +144,7 @@ static SURVEY_OPERANDS: [Name; MOST_OPERANDS] = [
     Name::Levels,
     Name::Members,
     Name::Patterns,
+    Name::Delays,
     Name::Syndromes,
     Name::Chunks,
     Name::Offsets,
@@ -286,6 +291,7 @@ impl Name {
             Name::Levels => "levels",
             Name::Members => "members",
             Name::Patterns => "patterns",
+            Name::Delays => "delays",
             Name::Syndromes => "syndromes",
             Name::Chunks => "chunks",
             Name::Offsets => "offsets",
@@ -326,6 +332,7 @@ impl Name {
             Name::Levels => ValueKind::Levels,
             Name::Members => ValueKind::Members,
             Name::Patterns => ValueKind::Patterns,
+            Name::Delays => ValueKind::Delays,
             Name::Syndromes => ValueKind::Syndromes,
             Name::Chunks => ValueKind::Chunks,
             Name::Offsets => verb.offsets_kind(),

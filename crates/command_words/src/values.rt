@@ -12,11 +12,12 @@ use landmark_text::{read_drops, read_groups};
 use mark_kinds::{DropAt, GROUP_COUNT, GroupKind, MOST_DROPS};
 use near_mirror::{CopyLayout, NearSet, read_near};
 use raid_params::{
-    Level, MOST_CHUNKS, MOST_LESS_ONE, MOST_LEVELS, MOST_OFFSETS, MOST_PATTERNS, MOST_SYNDROMES,
-    Pattern, Syndrome, Wide,
+    Level, MOST_CHUNKS, MOST_DELAYS, MOST_LESS_ONE, MOST_LEVELS, MOST_OFFSETS, MOST_PATTERNS,
+    MOST_SYNDROMES, Pattern, Syndrome, Wide,
 };
 use value_text::{
-    read_chunks, read_members, read_number, read_places, read_sectors, read_set, rising,
+    read_chunks, read_delays, read_members, read_number, read_places, read_sectors, read_set,
+    rising,
 };
 
 /// The value of an operand.
@@ -30,6 +31,8 @@ pub enum Value {
     Members(ArrayVec<u8, MOST_LESS_ONE>),
     /// Patterns.
     Patterns(ArrayVec<Pattern, MOST_PATTERNS>),
+    /// Numbers of rows for which parity stays.
+    Delays(ArrayVec<u64, MOST_DELAYS>),
     /// Orders of Q.
     Syndromes(ArrayVec<Syndrome, MOST_SYNDROMES>),
     /// Chunks, in sectors.
@@ -71,6 +74,7 @@ pub fn read_value(kind: ValueKind, text: &[u8]) -> Option<Value>
         ValueKind::Levels => Some(Value::Levels(rising(text)?)),
         ValueKind::Members => Some(Value::Members(read_members(text)?)),
         ValueKind::Patterns => Some(Value::Patterns(rising(text)?)),
+        ValueKind::Delays => Some(Value::Delays(read_delays(text)?)),
         ValueKind::Syndromes => Some(Value::Syndromes(rising(text)?)),
         ValueKind::Chunks => Some(Value::Chunks(read_chunks(text)?)),
         ValueKind::Sectors => Some(Value::Sectors(read_sectors(text)?)),

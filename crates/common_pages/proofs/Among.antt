@@ -26,13 +26,15 @@ among_heads bounds =
     (each_flat (IsAmong bounds) (Contains bounds.levels.items) _ bounds.levels.items (λ level l.
     each_flat (IsAmong bounds) (λ x. Unit {0}) _ bounds.members.items (λ members t.
     each_flat (IsAmong bounds) (λ x. Unit {0}) _ bounds.patterns.items (λ pattern t.
+    each_flat (IsAmong bounds) (Contains bounds.delays.items) _ bounds.delays.items (λ delay d.
     each_flat (IsAmong bounds) (λ x. Unit {0}) _ bounds.syndromes.items (λ syndrome t.
     each_flat (IsAmong bounds) (Contains bounds.chunks.items) _ bounds.chunks.items (λ chunk c.
-    each_map (IsAmong bounds) (λ offset. record { level = level; members = members; pattern = pattern; syndrome = syndrome; chunk = chunk; offset = offset }) bounds.offsets.items
-    (each_more (Contains bounds.offsets.items) (λ offset. IsAmong bounds (record { level = level; members = members; pattern = pattern; syndrome = syndrome; chunk = chunk; offset = offset })) bounds.offsets.items
-    (λ offset o. record { level = l; chunk = c; offset = o }) (each_among bounds.offsets.items)))
+    each_map (IsAmong bounds) (λ offset. record { level = level; members = members; pattern = pattern; delay = delay; syndrome = syndrome; chunk = chunk; offset = offset }) bounds.offsets.items
+    (each_more (Contains bounds.offsets.items) (λ offset. IsAmong bounds (record { level = level; members = members; pattern = pattern; delay = delay; syndrome = syndrome; chunk = chunk; offset = offset })) bounds.offsets.items
+    (λ offset o. record { level = l; delay = d; chunk = c; offset = o }) (each_among bounds.offsets.items)))
     (each_among bounds.chunks.items))
     (each_any (λ x. Unit {0}) (λ x. tt) bounds.syndromes.items))
+    (each_among bounds.delays.items))
     (each_any (λ x. Unit {0}) (λ x. tt) bounds.patterns.items))
     (each_any (λ x. Unit {0}) (λ x. tt) bounds.members.items))
     (each_among bounds.levels.items)))

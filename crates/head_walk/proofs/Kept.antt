@@ -18,6 +18,9 @@ use Rattle.row_samples.specs.Rows.{most_kept}
 use Rattle.prune_filters.specs.Rows.{needs_samples, needs_table}
 use Rattle.prune_filters.specs.Early.{AreEarlyTables, HasEarlyTable, IsEarlyTable}
 use Rattle.prune_filters.specs.Xors.{most_tested, RowTable}
+use Rattle.prune_filters.specs.Paces.{pace_at, pace_of, paces_of}
+use Rattle.xor_tables.proofs.Paces.{pace_stands}
+use Rattle.xor_tables.specs.declared.pace.Pace.{Pace}
 use Rattle.head_walk.specs.Counts.{asks_samples, asks_tables, offset_reads}
 use Rattle.head_walk.specs.Walk.{has_entry, left_after, left_reads, needs_entry, IsKept, Spends}
 use Rattle.head_walk.specs.declared.row_tables.OffsetTables.{OffsetTables}
@@ -78,15 +81,21 @@ kept_last old new one offset is same =
 pub kept_at : (told : Option (List (List ℕ))) (plan : Plan) (kept : List OffsetTables) (place : ℕ) (one : OffsetTables) → All (IsKept told plan) kept → slice_get kept place ≡ Some one → IsKept told plan one
 kept_at told plan kept place one all e = subst (IsKept told plan) (get_or_from_slice_get kept place one one e) (all place one (slice_get_within kept place one e))
 
--- the table of the head, among those for each chunk
-pub table_of : (bytes : List (List ℕ)) (plan : Plan) (head : Head) (entry : OffsetTables) (place : ℕ) (table : RowTable) → entry.offset ≡ head.offset → place < length plan.bounds.chunks.items →
-    slice_index plan.bounds.chunks.items place ≡ head.chunk → table ≡ slice_index_or entry.tables.items place table →
-    AreEarlyTables bytes plan plan.bounds.chunks.items entry.offset entry.tables.items → IsEarlyTable bytes plan head.chunk head.offset table
-table_of bytes plan head entry place table same low chunk is are =
-    let Q : ℕ → Type 0 = λ n. IsEarlyTable bytes plan n head.offset table in
-    let R : ℕ → Type 0 = λ n. IsEarlyTable bytes plan (slice_index plan.bounds.chunks.items place) n table in
-    let S : RowTable → Type 0 = λ t. IsEarlyTable bytes plan (slice_index plan.bounds.chunks.items place) entry.offset t in
-    subst Q chunk (subst R same (subst S (sym is) (are.each place table low)))
+-- the table of the head, among those for each delay of each chunk
+pub table_of : (bytes : List (List ℕ)) (plan : Plan) (head : Head) (entry : OffsetTables) (place : ℕ) (table : RowTable) → entry.offset ≡ head.offset →
+    place < length (paces_of plan) → pace_at (paces_of plan) place ≡ pace_of head → table ≡ slice_index_or entry.tables.items place table →
+    AreEarlyTables bytes plan (paces_of plan) entry.offset entry.tables.items → IsEarlyTable bytes plan (pace_of head) head.offset table
+table_of bytes plan head entry place table same low pace is are =
+    let Q : Pace → Type 0 = λ p. IsEarlyTable bytes plan p head.offset table in
+    let R : ℕ → Type 0 = λ n. IsEarlyTable bytes plan (pace_at (paces_of plan) place) n table in
+    let S : RowTable → Type 0 = λ t. IsEarlyTable bytes plan (pace_at (paces_of plan) place) entry.offset t in
+    subst Q pace (subst R same (subst S (sym is) (are.each place table low)))
+
+-- where the pace of a head stands among those of its plan
+pub pace_found : (plan : Plan) (head : Head) (c d : ℕ) → c < length plan.bounds.chunks.items → slice_index plan.bounds.chunks.items c ≡ head.chunk → d < length plan.bounds.delays.items → slice_index plan.bounds.delays.items d ≡ head.delay →
+    pace_at (paces_of plan) (c * length plan.bounds.delays.items + d) ≡ pace_of head
+pace_found plan head c d low chunk few delay =
+    pace_stands plan c d low few ∙ ap₂ (λ (n m : ℕ). let p : Pace = record { chunk = n; delay = m } in p) chunk delay
 
 -- a head that needs no table
 pub no_table : (told : Option (List (List ℕ))) (plan : Plan) (head : Head) → needs_table plan head ≡ false → IfSome told (λ bytes. HasEarlyTable bytes plan head None)

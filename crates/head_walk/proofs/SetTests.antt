@@ -7,7 +7,7 @@ use Rattle.outside.specs.Seen.{Image}
 use Rattle.raid_params.specs.declared.limits.TheConstants.{MOST}
 use Rattle.raid_params.specs.declared.types.Geometry.{Geometry}
 use Rattle.raid_params.specs.Size.{rows}
-use Rattle.raid_params.specs.Validity.{fewest, has_members, has_pattern, has_syndrome, is_chunk, is_shaped, is_valid_head}
+use Rattle.raid_params.specs.Validity.{fewest, has_delay, has_members, has_pattern, has_syndrome, is_chunk, is_shaped, is_valid_head}
 use Rattle.raid_terms.specs.Parity.{passes_parity}
 use Rattle.landmark_rules.specs.Groups.{groups_hold}
 use Rattle.parity_scan.specs.Scan.{IsScannable}
@@ -59,7 +59,7 @@ head_valid plan rank geo is_plan e = (set_at plan rank geo is_plan e).head
 pub few_slots : (plan : Plan) (rank : ℕ) (geo : Geometry) → IsPlan plan → slice_get (sets_of plan) rank ≡ Some geo → length geo.slots.items ≤ MOST
 few_slots plan rank geo is_plan e =
     let set = set_at plan rank geo is_plan e in
-    let members = and_parts (has_members geo.head.level geo.head.members) (has_pattern geo.head.level geo.head.pattern && (has_syndrome geo.head.level geo.head.syndrome && is_chunk geo.head.chunk)) set.head in
+    let members = and_parts (has_members geo.head.level geo.head.members) (has_pattern geo.head.level geo.head.pattern && (has_syndrome geo.head.level geo.head.syndrome && (is_chunk geo.head.chunk && has_delay geo.head.pattern geo.head.delay))) set.head in
     let most = leb-true geo.head.members MOST (and_parts (nat_le (fewest geo.head.level) geo.head.members) (nat_le geo.head.members MOST) members.0).1 in
     let long = set.long in
     omega arith

@@ -50,10 +50,10 @@ unfoldable pub asks_tables : Plan → Bool
 asks_tables plan = list_any (needs_table plan) (heads plan.bounds)
 
 -- a head of this shape that makes sense needs one, whatever its chunk and offset
-abbrev pub shape_asks : Plan → Level → ℕ → Pattern → Syndrome → Bool
-shape_asks plan level members pattern syndrome =
-    is_valid_head (record { level = level; members = members; pattern = pattern; syndrome = syndrome; chunk = 1; offset = 0 })
-    && needs_table plan (record { level = level; members = members; pattern = pattern; syndrome = syndrome; chunk = 1; offset = 0 })
+abbrev pub shape_asks : Plan → Level → ℕ → Pattern → ℕ → Syndrome → Bool
+shape_asks plan level members pattern delay syndrome =
+    is_valid_head (record { level = level; members = members; pattern = pattern; delay = delay; syndrome = syndrome; chunk = 1; offset = 0 })
+    && needs_table plan (record { level = level; members = members; pattern = pattern; delay = delay; syndrome = syndrome; chunk = 1; offset = 0 })
 
 -- samples of the rows are asked for some head of the plan
 unfoldable pub asks_samples : Plan → Bool

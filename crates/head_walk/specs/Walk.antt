@@ -23,6 +23,7 @@ use Rattle.outside.specs.Seen.{Image, OnlyReads, Seen}
 use Rattle.head_walk.specs.Counts.{asks_tables, hopeful_ranks, is_decided, is_hopeful_at, most_scanned, offset_reads, open_ranks}
 use Rattle.prune_filters.specs.Early.{AreEarlyTables}
 use Rattle.prune_filters.specs.Hopeful.{is_hopeful_by}
+use Rattle.prune_filters.specs.Paces.{paces_of}
 use Rattle.prune_filters.specs.Rows.{needs_samples, needs_table}
 use Rattle.prune_filters.specs.Xors.{most_tested, RowTable}
 use Rattle.relation_prefix.specs.declared.sampled.SampledRow.{SampledRow}
@@ -53,6 +54,7 @@ pub record CanPage (plan : Plan) (size : ℕ) (attached : List Image) : Type 0 w
 -- the values of a head on which its tables depend are among those of a search
 pub record IsAmong (bounds : Bounds) (head : Head) : Type 0 where
   pub level : Contains bounds.levels.items head.level
+  pub delay : Contains bounds.delays.items head.delay
   pub chunk : Contains bounds.chunks.items head.chunk
   pub offset : Contains bounds.offsets.items head.offset
 
@@ -97,15 +99,15 @@ pub record IsAsked (plan : Plan) (head : Head) (space : Space) : Type 0 where
   pub members : space.members ≡ head.members
   pub level : Contains plan.bounds.levels.items head.level
 
--- where some head needs a table, there is one for each chunk of the plan
+-- where some head needs a table, there is one for each delay of each chunk of the plan
 abbrev pub HasTables : Plan → OffsetTables → Type 0
-HasTables plan kept = asks_tables plan ≡ true → length kept.tables.items ≡ length plan.bounds.chunks.items
+HasTables plan kept = asks_tables plan ≡ true → length kept.tables.items ≡ length (paces_of plan)
 
--- what is kept of an offset, over the bytes of the images where they are known: a table of rows for each chunk of the plan, where
--- some head needs one, and rows with their ties
+-- what is kept of an offset, over the bytes of the images where they are known: a table of rows for each delay of each
+-- chunk of the plan, where some head needs one, and rows with their ties
 pub record IsKept (told : Option (List (List ℕ))) (plan : Plan) (kept : OffsetTables) : Type 0 where
   pub long : HasTables plan kept
-  pub tables : asks_tables plan ≡ true → IfSome told (λ bytes. AreEarlyTables bytes plan plan.bounds.chunks.items kept.offset kept.tables.items)
+  pub tables : asks_tables plan ≡ true → IfSome told (λ bytes. AreEarlyTables bytes plan (paces_of plan) kept.offset kept.tables.items)
   pub row_images : kept.rows.images ≡ length plan.lengths.items
   pub rows : IfSome told (λ bytes. AreImageRows bytes (length plan.lengths.items) kept.offset kept.rows.list)
 

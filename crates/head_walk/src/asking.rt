@@ -19,8 +19,8 @@ pub(crate) fn asks_tables(plan: &Plan) -> bool
 
 /// Whether one of some level of the plan does.
 fn levels_ask(plan: &Plan) -> bool
-    ensures { result ≡ list_any (λ level. list_any (λ members. list_any (λ pattern. list_any (shape_asks_tables plan.now level members pattern)
-        plan.now.bounds.syndromes.items) plan.now.bounds.patterns.items) plan.now.bounds.members.items) plan.now.bounds.levels.items }
+    ensures { result ≡ list_any (λ level. list_any (λ members. list_any (λ pattern. list_any (λ delay.
+        list_any (shape_asks_tables plan.now level members pattern delay) plan.now.bounds.syndromes.items) plan.now.bounds.delays.items) plan.now.bounds.patterns.items) plan.now.bounds.members.items) plan.now.bounds.levels.items }
 {
     plan.bounds
         .levels
@@ -30,8 +30,8 @@ fn levels_ask(plan: &Plan) -> bool
 
 /// Whether one of this level does.
 fn level_asks(plan: &Plan, level: Level) -> bool
-    ensures { result ≡ list_any (λ members. list_any (λ pattern. list_any (shape_asks_tables plan.now level members pattern)
-        plan.now.bounds.syndromes.items) plan.now.bounds.patterns.items) plan.now.bounds.members.items }
+    ensures { result ≡ list_any (λ members. list_any (λ pattern. list_any (λ delay.
+        list_any (shape_asks_tables plan.now level members pattern delay) plan.now.bounds.syndromes.items) plan.now.bounds.delays.items) plan.now.bounds.patterns.items) plan.now.bounds.members.items }
 {
     plan.bounds
         .members
@@ -41,8 +41,8 @@ fn level_asks(plan: &Plan, level: Level) -> bool
 
 /// Whether one of this level and so many members does.
 fn members_ask(plan: &Plan, level: Level, members: u8) -> bool
-    ensures { result ≡ list_any (λ pattern. list_any (shape_asks_tables plan.now level members pattern)
-        plan.now.bounds.syndromes.items) plan.now.bounds.patterns.items }
+    ensures { result ≡ list_any (λ pattern. list_any (λ delay.
+        list_any (shape_asks_tables plan.now level members pattern delay) plan.now.bounds.syndromes.items) plan.now.bounds.delays.items) plan.now.bounds.patterns.items }
 {
     plan.bounds
         .patterns
@@ -52,21 +52,40 @@ fn members_ask(plan: &Plan, level: Level, members: u8) -> bool
 
 /// Whether one does that has this pattern besides.
 fn pattern_asks(plan: &Plan, level: Level, members: u8, pattern: Pattern) -> bool
-    ensures { result ≡ list_any (shape_asks_tables plan.now level members pattern) plan.now.bounds.syndromes.items }
+    ensures { result ≡ list_any (λ delay. list_any (shape_asks_tables plan.now level members pattern delay)
+        plan.now.bounds.syndromes.items) plan.now.bounds.delays.items }
+{
+    plan.bounds
+        .delays
+        .iter()
+        .any(|delay| delay_asks(plan, level, members, pattern, *delay))
+}
+
+/// Whether one does that has this delay besides.
+fn delay_asks(plan: &Plan, level: Level, members: u8, pattern: Pattern, delay: u64) -> bool
+    ensures { result ≡ list_any (shape_asks_tables plan.now level members pattern delay) plan.now.bounds.syndromes.items }
 {
     plan.bounds.syndromes.iter().any(|syndrome| shape_asks(
-        plan, level, members, pattern, *syndrome,
+        plan, level, members, pattern, delay, *syndrome,
     ))
 }
 
 /// Whether a head with these values makes sense, whatever its chunk and offset, and needs a table.
-fn shape_asks(plan: &Plan, level: Level, members: u8, pattern: Pattern, syndrome: Syndrome) -> bool
-    ensures { result ≡ shape_asks_tables plan.now level members pattern syndrome }
+fn shape_asks(
+    plan: &Plan,
+    level: Level,
+    members: u8,
+    pattern: Pattern,
+    delay: u64,
+    syndrome: Syndrome,
+) -> bool
+    ensures { result ≡ shape_asks_tables plan.now level members pattern delay syndrome }
 {
     let head = Head {
         level,
         members,
         pattern,
+        delay,
         syndrome,
         chunk: 1,
         offset: 0,

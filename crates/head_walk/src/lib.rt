@@ -11,8 +11,8 @@
 //! break a row, or whose test the tables of rows decide, no row has to be tested: it takes part in the scan as one that is
 //! known to pass.
 //!
-//! A table of marks is held at a time. Of each offset, tables of rows for all chunks together and some whole rows are kept
-//! in [`KeptTables`] for all pages of a call; they are made where the first head needs them. By the relations of the rows a
+//! A table of marks is held at a time. Of each offset, tables of rows for all chunks and delays together and some whole rows
+//! are kept in [`KeptTables`] for all pages of a call; they are made where the first head needs them. By the relations of the rows a
 //! prefix is passed over with all that begins so, and a whole slot list before it waits (`relation_prefix`): which rows are asked
 //! stands in `specs/Relations`.
 //!

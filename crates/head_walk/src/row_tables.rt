@@ -5,6 +5,7 @@ ghost use Rattle.outside.specs.Attached.{told_all};
 ghost use Rattle.outside.specs.Seen.{OnlyReads};
 ghost use Rattle.row_samples.specs.Rows.{most_kept as most_rows_kept, AreImageRows, EndsSamples};
 ghost use Rattle.prune_filters.specs.Early.{AreEarlyTables, HasEarlyTable};
+ghost use Rattle.prune_filters.specs.Paces.{pace_at, pace_of, paces_of};
 ghost use Rattle.prune_filters.specs.Rows.{needs_samples as head_needs_samples, needs_table as head_needs_table};
 ghost use Rattle.search_plan.specs.Plans.{IsPlan, AgreeWith};
 ghost use Rattle.head_walk.specs.Counts.{asks_samples, asks_tables as plan_asks_tables, offset_reads};
@@ -27,7 +28,7 @@ use std::alloc::Global;
 pub struct OffsetTables {
     /// The offset.
     pub offset: u64,
-    /// The tables of rows, one for each chunk of the plan, in their order; none where no head of the plan needs one.
+    /// The tables of rows, one for each delay of each chunk of the plan, in their order; none where no head of the plan needs one.
     pub tables: Vec<EarlyTable>,
     /// Some rows, with what they say of how the images depend on one another.
     pub rows: SampledRows,
@@ -50,20 +51,32 @@ pub(crate) fn is_kept(kept: &KeptTables, offset: u64) -> bool
     kept.as_slice().iter().any(|one| one.offset == offset)
 }
 
-/// The place of a chunk among some.
-fn chunk_place(chunks: &[u64], chunk: u64) -> usize
-    requires { Contains chunks.now chunk }
-    ensures within { result < length chunks.now }
-    ensures is { slice_index chunks.now result ≡ chunk }
+/// The place of a number among some.
+fn number_place(numbers: &[u64], number: u64) -> usize
+    requires { Contains numbers.now number }
+    ensures within { result < length numbers.now }
+    ensures is { slice_index numbers.now result ≡ number }
 {
-    match chunks.iter().position(|one| *one == chunk) {
+    match numbers.iter().position(|one| *one == number) {
         Some(place) => place,
         None => unreachable!(),
     }
 }
 
-/// Keeps of the offset of a head what it needs, if it needs something: tables of rows for all chunks of the plan where some
-/// head of the plan needs one, and rows. Each image is read once for an offset.
+/// The place of the table for a head among those for each delay of each chunk of the plan.
+fn pace_place(plan: &Plan, head: &Head) -> usize
+    requires chunk { Contains plan.now.bounds.chunks.items head.now.chunk }
+    requires delay { Contains plan.now.bounds.delays.items head.now.delay }
+    ensures within { result < length (paces_of plan.now) }
+    ensures is { pace_at (paces_of plan.now) result ≡ pace_of head.now }
+{
+    let chunk = number_place(&plan.bounds.chunks, head.chunk);
+    let delay = number_place(&plan.bounds.delays, head.delay);
+    chunk * plan.bounds.delays.len() + delay
+}
+
+/// Keeps of the offset of a head what it needs, if it needs something: tables of rows for all chunks and delays of the plan
+/// where some head of the plan needs one, and rows. Each image is read once for an offset.
 pub(crate) fn keep_needed<I: Images>(
     alloc: Global,
     images: &mut I,
@@ -148,7 +161,7 @@ fn tables_of<I: Images>(
     let count = plan.lengths.len();
     let tested = most_rows(plan, chunks, offset);
     let mut sampler = RowSampler::new(alloc, count, tested, plan.limits.badrows)?;
-    let tables = EarlyTable::build_each(alloc, images, plan, chunks, offset, &mut sampler)?;
+    let tables = EarlyTable::build_each(alloc, images, plan, offset, &mut sampler)?;
     Ok(OffsetTables {
         offset,
         tables,
@@ -200,15 +213,15 @@ pub(crate) fn table_for<'a>(
     requires long { HasTables plan.now entry.now }
     requires offset { entry.now.offset ≡ sets.now.head.offset }
     ensures some { head_needs_table plan.now sets.now.head ≡ true → IsSome result }
-    ensures table { (bytes : List (List ℕ)) → (plan_asks_tables plan.now ≡ true → AreEarlyTables bytes plan.now plan.now.bounds.chunks.items entry.now.offset entry.now.tables.items) →
+    ensures table { (bytes : List (List ℕ)) → (plan_asks_tables plan.now ≡ true → AreEarlyTables bytes plan.now (paces_of plan.now) entry.now.offset entry.now.tables.items) →
         HasEarlyTable bytes plan.now sets.now.head (option_map (λ table. table.now) result) }
 {
     if !needs_table(plan, &sets.head) {
         return None;
     }
-    let chunk = chunk_place(&plan.bounds.chunks, sets.head.chunk);
+    let place = pace_place(plan, &sets.head);
     let tables: &[EarlyTable] = &entry.tables;
-    Some(&tables[chunk])
+    Some(&tables[place])
 }
 
 /// The rows for a head, if they are asked for it.

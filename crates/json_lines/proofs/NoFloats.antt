@@ -3,13 +3,12 @@ use Rattle.std.proofs.Common.{ℕ, ◌≡◌, ◌+◌, ◌<◌, false, refl, Lis
 use Rattle.std.proofs.lemmas.List.{map-append, map_more}
 use Rattle.std.specs.declared.alloc.Global.{Global}
 use Rattle.std.specs.declared.alloc.AllocError.{AllocError}
-use Rattle.raid_layouts.specs.Names.{name_of}
 use Rattle.raid_params.specs.declared.types.Head.{Head}
 use Rattle.serde_json.specs.Data.{Data}
 use Rattle.serde_json.specs.View.{items_of, view}
 use Rattle.serde_json.specs.declared.value.Value.{Value}
 use Rattle.serde_json.specs.Written.{compact_text, has_float, items_have_float}
-use Rattle.json_lines.specs.Objects.{base_data, name_data, offset_data, set_data, slots_data}
+use Rattle.json_lines.specs.Objects.{base_data, layout_name, name_data, offset_data, set_data, slots_data}
 
 slots_no_float : (slots : List (Option ℕ)) → items_have_float (slots_data slots) ≡ false
 slots_no_float [] = refl
@@ -29,7 +28,7 @@ offset_no_float offset [] = refl
 offset_no_float offset (base ∷ bases) = bases_no_float (base ∷ bases)
 
 pub set_no_float : (rank : ℕ) (head : Head) (bases : List ℕ) (slots : List (Option ℕ)) → has_float (set_data rank head bases slots) ≡ false
-set_no_float rank head bases slots = rw (name_no_float (name_of head.level head.pattern head.syndrome), offset_no_float head.offset bases, slots_no_float slots) refl
+set_no_float rank head bases slots = rw (name_no_float (layout_name head), offset_no_float head.offset bases, slots_no_float slots) refl
 
 -- one more element
 pub element_more : {A : Type 0} (data_of : A → Data) (elements : List A) (i : ℕ) (d : A) (values new : List Value) (value : Value) → i < length elements → map view values ≡ map data_of (take i elements) → view value ≡ data_of (get_or elements i d) →

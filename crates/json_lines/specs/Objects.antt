@@ -1,5 +1,5 @@
 -- The objects of a listing's lines.
-use Rattle.std.specs.Prelude.{ℕ, List, [], ◌∷◌, Option, Some, None, codes, map}
+use Rattle.std.specs.Prelude.{ℕ, ◌==◌, if◌then◌else◌, List, [], ◌∷◌, Option, Some, None, codes, map}
 use Rattle.serde_json.specs.Data.{Data, Items, array, member, no_members, null, number, object, string, unsigned}
 use Rattle.serde_json.specs.View.{items_of}
 use Rattle.serde_json.specs.Written.{compact_text}
@@ -8,7 +8,8 @@ use Rattle.raid_params.specs.declared.types.Level.{Level}
 use Rattle.raid_params.specs.declared.types.Level.TheVariants.{Raid0, Raid5, Raid6}
 use Rattle.raid_params.specs.declared.wide.Wide.{Wide}
 use Rattle.raid_layouts.specs.Names.{name_of}
-use Rattle.value_text.specs.Spelling.{line, pattern_name, syndrome_name}
+use Rattle.value_text.specs.SetText.{rotation_name}
+use Rattle.value_text.specs.Spelling.{line, syndrome_name}
 
 -- the number of a level
 abbrev pub level_number : Level → ℕ
@@ -32,6 +33,10 @@ abbrev pub offset_data : ℕ → List ℕ → Data
 offset_data offset [] = base_data offset
 offset_data offset (base ∷ bases) = array (items_of (map base_data (base ∷ bases)))
 
+-- the name of a layout, where parity stays for one row
+abbrev pub layout_name : Head → Option (List ℕ)
+layout_name head = if head.delay == 1 then name_of head.level head.pattern head.syndrome else None
+
 -- the name of a layout, or null where it has none
 abbrev pub name_data : Option (List ℕ) → Data
 name_data (Some name) = string name
@@ -41,8 +46,8 @@ name_data None = null
 abbrev pub set_data : ℕ → Head → List ℕ → List (Option ℕ) → Data
 set_data rank head bases slots = object (
     member (codes "chunk") (number (unsigned head.chunk)) (member (codes "level") (number (unsigned (level_number head.level)))
-    (member (codes "name") (name_data (name_of head.level head.pattern head.syndrome)) (member (codes "offset") (offset_data head.offset bases)
-    (member (codes "pattern") (string (pattern_name head.pattern)) (member (codes "rank") (number (unsigned rank))
+    (member (codes "name") (name_data (layout_name head)) (member (codes "offset") (offset_data head.offset bases)
+    (member (codes "pattern") (string (rotation_name head.pattern head.delay)) (member (codes "rank") (number (unsigned rank))
     (member (codes "slots") (array (slots_data slots)) (member (codes "syndrome") (string (syndrome_name head.syndrome)) no_members))))))))
 
 -- the object of where the next page begins, of `total` ranks

@@ -1,9 +1,9 @@
 //! Lines of JSON.
-ghost use Rattle.std.specs.Prelude.{◌≡◌, IfOk, map, string_bytes};
-ghost use Rattle.json_lines.specs.Objects.{base_data, level_number as level_number_of, name_data, next_data, next_object, offset_data, set_data, set_object, slot_data, slots_data};
+ghost use Rattle.std.specs.Prelude.{◌≡◌, ◌==◌, ◌∷◌, ◌++◌, IfOk, decimal, if◌then◌else◌, map, string_bytes};
+ghost use Rattle.json_lines.specs.Objects.{base_data, layout_name, level_number as level_number_of, name_data, next_data, next_object, offset_data, set_data, set_object, slot_data, slots_data};
 ghost use Rattle.value_text.specs.Spelling.{line as line_of};
-ghost use Rattle.raid_layouts.specs.Names.{name_of};
-ghost use Rattle.serde_json.specs.Data.{array};
+ghost use Rattle.value_text.specs.SetText.{rotation_name};
+ghost use Rattle.serde_json.specs.Data.{array, string};
 ghost use Rattle.serde_json.specs.View.{items_of, view};
 ghost use Rattle.serde_json.specs.Written.{compact_text};
 
@@ -16,7 +16,7 @@ use value_text::{Text, pattern_name, syndrome_name};
 
 /// The line of a parameter set with its rank, and its line feed: an object with the keys chunk, level, name,
 /// offset, pattern, rank, slots and syndrome. `name` is mdadm's or DDF's name of the layout, or null; `offset` is the list
-/// of bases where there are any; an empty slot is null.
+/// of bases where there are any; `pattern` has the delay behind a star where it is not 1; an empty slot is null.
 #[tactic(auto, unfolding(crate::specs::Objects::set_object))]
 pub fn json_line(alloc: Global, rank: u64, set: &Wide) -> Result<Text, Memory>
     ensures { IfOk result (λ text. text ≡ set_object rank set.now) }
@@ -86,15 +86,37 @@ fn set_value(
 {
     json!(in alloc; {
         "chunk": head.chunk, "level": level_number(head.level), "name": name_value(alloc, head)?,
-        "offset": offset_value(alloc, head.offset, bases)?, "pattern": pattern_name(head.pattern), "rank": rank,
+        "offset": offset_value(alloc, head.offset, bases)?, "pattern": pattern_value(alloc, head)?, "rank": rank,
         "slots": slots_value(alloc, slots)?, "syndrome": syndrome_name(head.syndrome)
     })
 }
 
-/// The name of the layout, or null.
-fn name_value(alloc: Global, head: &Head) -> Result<Value, AllocError>
-    ensures { IfOk result (λ value. view value ≡ name_data (name_of head.now.level head.now.pattern head.now.syndrome)) }
+/// The pattern, with the delay behind a star where it is not 1.
+fn pattern_value(alloc: Global, head: &Head) -> Result<Value, AllocError>
+    ensures { IfOk result (λ value. view value ≡ string (rotation_name head.now.pattern head.now.delay)) }
 {
+    let text = rotation_text(alloc, pattern_name(head.pattern), head.delay)?;
+    Ok(Value::String(text))
+}
+
+/// The name of a pattern, and behind a star the delay where it is not 1.
+fn rotation_text(alloc: Global, name: &str, delay: u64) -> Result<String, AllocError>
+    ensures { IfOk result (λ text. string_bytes text ≡ (if delay == 1 then name.now else name.now ++ 42 ∷ decimal delay)) }
+{
+    if delay == 1 {
+        String::from_str(alloc, name)
+    } else {
+        format!(in alloc; "{name}*{delay}")
+    }
+}
+
+/// The name of the layout, or null: only layouts whose parity stays for one row have one.
+fn name_value(alloc: Global, head: &Head) -> Result<Value, AllocError>
+    ensures { IfOk result (λ value. view value ≡ name_data (layout_name head.now)) }
+{
+    if head.delay != 1 {
+        return Ok(Value::Null);
+    }
     match md_name(head.level, head.pattern, head.syndrome) {
         Some(name) => {
             let text = String::from_str(alloc, name)?;

@@ -10,6 +10,7 @@ fn two_rows(rt: HostRuntime) {
         level: Level::Raid5,
         members: 4,
         pattern: Pattern::Ls,
+        delay: 1,
         syndrome: Syndrome::NoQ,
         chunk: 2,
         offset: 5,

@@ -1,11 +1,16 @@
-//! The first four rows of arrays of four members and the rows of mirrors, as docs/LAYOUTS.md draws them, and the names of
+//! The first rows of arrays of four members and the rows of mirrors, as docs/LAYOUTS.md draws them, and the names of
 //! layouts. The drawings are written out by hand there, and not made by a crate.
+ghost use Rattle.std.specs.Prelude.{◌≡◌};
+
 use near_mirror::{CopyLayout, Copying, NearHead};
 use raid_layouts::{SlotRole, md_name, role};
 use raid_params::{Head, Level, Pattern, Syndrome};
 
 // Four rows of four slots: data items by their numbers, P and Q.
 type Drawing = [u8; 19];
+
+// Six rows of them.
+type LongDrawing = [u8; 29];
 
 // At level 5.
 const LEVEL_5: [(Pattern, &Drawing); 6] = [
@@ -46,6 +51,28 @@ const LEVEL_6: [(Pattern, Syndrome, &Drawing); 13] = [
     ),
 ];
 
+// With a delay of two rows: at level 6 the rows are those of `La`, a turn further on.
+const DELAYED: [(Level, Pattern, Syndrome, &LongDrawing); 3] = [
+    (
+        Level::Raid5,
+        Pattern::La,
+        Syndrome::NoQ,
+        b"012P 012P 01P2 01P2 0P12 0P12",
+    ),
+    (
+        Level::Raid5,
+        Pattern::Rs,
+        Syndrome::NoQ,
+        b"P012 P012 2P01 2P01 12P0 12P0",
+    ),
+    (
+        Level::Raid6,
+        Pattern::NRestart,
+        Syndrome::BySlot,
+        b"01PQ 01PQ 0PQ1 0PQ1 PQ01 PQ01",
+    ),
+];
+
 // What stands for a role in a drawing.
 fn drawn(role: SlotRole) -> u8 {
     match role {
@@ -56,24 +83,37 @@ fn drawn(role: SlotRole) -> u8 {
     }
 }
 
-// Whether the first four rows of four members of one sector a chunk are those of the drawing.
-fn is_drawn(level: Level, pattern: Pattern, syndrome: Syndrome, drawing: &Drawing) -> bool {
-    let head = Head {
+// The head of four members of one sector a chunk.
+fn four_members(level: Level, pattern: Pattern, delay: u64, syndrome: Syndrome) -> Head
+    ensures { result.members ≡ 4 }
+{
+    Head {
         level,
         members: 4,
         pattern,
+        delay,
         syndrome,
         chunk: 1,
         offset: 0,
-    };
+    }
+}
+
+// Whether the first rows of four members are those of the drawing, in which a space stands behind each row.
+fn is_drawn(head: &Head, drawing: &[u8]) -> bool
+    requires { head.now.members ≡ 4 }
+{
     if !head.is_valid() {
         return false;
     }
-    for row in 0..4 {
-        for slot in 0..4u8 {
-            if drawn(role(&head, row as u64, slot)) != drawing[row * 5 + slot as usize] {
-                return false;
-            }
+    for at in 0..drawing.len() {
+        let slot = at % 5;
+        let cell = if slot < 4 {
+            drawn(role(head, (at / 5) as u64, slot as u8))
+        } else {
+            b' '
+        };
+        if cell != drawing[at] {
+            return false;
         }
     }
     true
@@ -176,17 +216,16 @@ fn rows_of_offset_copies(rt: HostRuntime) {
 #[test]
 fn rows_of_level_0(rt: HostRuntime) {
     let drawing = b"0123 0123 0123 0123";
-    assert!(rt; is_drawn(Level::Raid0, Pattern::Plain, Syndrome::NoQ, drawing));
+    let head = four_members(Level::Raid0, Pattern::Plain, 1, Syndrome::NoQ);
+    assert!(rt; is_drawn(&head, drawing));
 }
 
 #[test]
 fn rows_of_level_5(rt: HostRuntime) {
     for i in 0..LEVEL_5.len() {
         let (pattern, drawing) = LEVEL_5[i];
-        assert!(rt;
-            is_drawn(Level::Raid5, pattern, Syndrome::NoQ, drawing),
-            "drawing {i}"
-        );
+        let head = four_members(Level::Raid5, pattern, 1, Syndrome::NoQ);
+        assert!(rt; is_drawn(&head, drawing), "drawing {i}");
     }
 }
 
@@ -194,10 +233,32 @@ fn rows_of_level_5(rt: HostRuntime) {
 fn rows_of_level_6(rt: HostRuntime) {
     for i in 0..LEVEL_6.len() {
         let (pattern, syndrome, drawing) = LEVEL_6[i];
-        assert!(rt;
-            is_drawn(Level::Raid6, pattern, syndrome, drawing),
-            "drawing {i}"
-        );
+        let head = four_members(Level::Raid6, pattern, 1, syndrome);
+        assert!(rt; is_drawn(&head, drawing), "drawing {i}");
+    }
+}
+
+#[test]
+fn rows_with_a_delay(rt: HostRuntime) {
+    for i in 0..DELAYED.len() {
+        let (level, pattern, syndrome, drawing) = DELAYED[i];
+        let head = four_members(level, pattern, 2, syndrome);
+        assert!(rt; is_drawn(&head, drawing), "drawing {i}");
+    }
+}
+
+#[test]
+fn delays_have_limits(rt: HostRuntime) {
+    for (pattern, delay, valid) in [
+        (Pattern::La, 0, false),
+        (Pattern::La, 1024, true),
+        (Pattern::La, 1025, false),
+        (Pattern::ParityFirst, 1, true),
+        (Pattern::ParityFirst, 2, false),
+        (Pattern::ParityLast, 2, false),
+    ] {
+        let head = four_members(Level::Raid5, pattern, delay, Syndrome::NoQ);
+        assert!(rt; head.is_valid() == valid, "a delay of {delay}");
     }
 }
 

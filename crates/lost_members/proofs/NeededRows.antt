@@ -18,7 +18,7 @@ use Rattle.raid_params.specs.declared.types.Part.{Part}
 use Rattle.raid_params.specs.declared.types.Part.TheVariants.{Block, P, Q}
 use Rattle.raid_terms.specs.Cells.{cells_from, part_of, row_cells}
 use Rattle.raid_terms.specs.Parity.{is_data, is_p, is_q}
-use Rattle.raid_terms.specs.Role.{p_of, q_of}
+use Rattle.raid_terms.specs.Role.{p_of, q_of, turn}
 use Rattle.lost_members.specs.Laws.{NeedsAsManyAsData, NeedsAsManyAsTheVolume}
 use Rattle.member_regions.specs.Members.{IsTestable}
 use Rattle.lost_members.specs.Needs.{is_needed, needed_of, needed_sectors}
@@ -237,10 +237,10 @@ counted_row geo images row shaped =
     let q = count_q head row slots valid long in
     let one_p = number_few (p_of head row) in
     let one_q = number_few (q_of head row) in
-    let all = both_numbers head.level head.pattern head.members row in
+    let all = both_numbers head.level head.pattern head.members (turn head row) in
     let lost = count_missing head row 0 slots in
     let kept = shaped_missing geo images shaped in
-    let beside = no_more (number (p_of head row)) (number (q_of head row)) one_q (q_beside head.level head.pattern head.members row) in
+    let beside = no_more (number (p_of head row)) (number (q_of head row)) one_q (q_beside head.level head.pattern head.members (turn head row)) in
     record { one_p = omega arith; one_q = omega arith; beside = omega arith; few = omega arith }
 
 data_of_row : (geo : Geometry) (images row : ℕ) → is_shaped geo images ≡ true → count_by (λ c. is_data c.part) (row_cells geo row) ≡ data_blocks geo.head
@@ -251,7 +251,7 @@ data_of_row geo images row shaped =
     let long = shaped_slots geo images shaped in
     let p = count_p head row slots valid long in
     let q = count_q head row slots valid long in
-    let all = both_numbers head.level head.pattern head.members row in
+    let all = both_numbers head.level head.pattern head.members (turn head row) in
     let parity = count_parity (cells_from head row 0 slots) in
     let kinds = all_data (cells_from head row 0 slots) in
     let cells = cells_length head row 0 slots in

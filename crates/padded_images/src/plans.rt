@@ -154,6 +154,7 @@ fn copy_bounds(bounds: &Bounds) -> Bounds
         levels: copy(&bounds.levels),
         members: copy(&bounds.members),
         patterns: copy(&bounds.patterns),
+        delays: copy(&bounds.delays),
         syndromes: copy(&bounds.syndromes),
         chunks: copy(&bounds.chunks),
         offsets: copy(&bounds.offsets),

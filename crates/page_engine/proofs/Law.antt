@@ -64,9 +64,9 @@ allowed_over plan head bases valid =
 -- all combinations of the values of the bounds, beside their offsets
 combined : Bounds → List Head
 combined bounds =
-    flat_map (λ level. flat_map (λ members. flat_map (λ pattern. flat_map (λ syndrome. flat_map (λ chunk. map (λ offset.
-    record { level = level; members = members; pattern = pattern; syndrome = syndrome; chunk = chunk; offset = offset })
-    (0 ∷ [])) bounds.chunks.items) bounds.syndromes.items) bounds.patterns.items) bounds.members.items) bounds.levels.items
+    flat_map (λ level. flat_map (λ members. flat_map (λ pattern. flat_map (λ delay. flat_map (λ syndrome. flat_map (λ chunk. map (λ offset.
+    record { level = level; members = members; pattern = pattern; delay = delay; syndrome = syndrome; chunk = chunk; offset = offset })
+    (0 ∷ [])) bounds.chunks.items) bounds.syndromes.items) bounds.delays.items) bounds.patterns.items) bounds.members.items) bounds.levels.items
 
 each_based : (plan : Plan) → AllByRecursion (IsAllowed plan) (based_of plan)
 unfolding combined

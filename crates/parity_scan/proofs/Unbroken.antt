@@ -13,6 +13,7 @@ use Rattle.raid_params.specs.Slots.{empties}
 use Rattle.raid_params.specs.declared.types.Geometry.{Geometry}
 use Rattle.raid_terms.specs.Cells.{row_cells}
 use Rattle.raid_terms.specs.Parity.{is_sound_row, member_column, passes_parity, tested_rows, unsound_rows}
+use Rattle.raid_terms.specs.Role.{turn}
 use Rattle.row_parity.proofs.Soundness.{sound_where_full}
 use Rattle.member_regions.proofs.ColumnBytes.{member_columns}
 use Rattle.member_regions.proofs.Counting.{count_suc}
@@ -29,7 +30,7 @@ sound_row images geo t bytes set none =
     let equal : empties geo.slots.items ≡ redundancy geo.head.level = eqb-true (empties geo.slots.items) (redundancy geo.head.level) none in
     let p = count_p geo.head (t / geo.head.chunk) geo.slots.items valid long in
     let q = count_q geo.head (t / geo.head.chunk) geo.slots.items valid long in
-    let all = both_numbers geo.head.level geo.head.pattern geo.head.members (t / geo.head.chunk) in
+    let all = both_numbers geo.head.level geo.head.pattern geo.head.members (turn geo.head (t / geo.head.chunk)) in
     let missing = count_missing geo.head (t / geo.head.chunk) 0 geo.slots.items in
     let parity = count_parity (row_cells geo (t / geo.head.chunk)) in
     sound_where_full (row_cells geo (t / geo.head.chunk)) (member_column images geo t) (row_is geo set.images (t / geo.head.chunk) set.shaped)

@@ -7,10 +7,10 @@ use Rattle.std.proofs.lemmas.List.FromFn.{get_or-range_with_len, length-range_wi
 use Rattle.std.proofs.lemmas.List.Elements.{All-cons, All-head, All-nil, All-tail}
 use Rattle.outside.specs.Seen.{Image, lengths_of}
 use Rattle.raid_params.specs.Bases.{greatest_base, is_offset_of, leaves_out}
+use Rattle.raid_params.proofs.Ruled.{wide_bases, wide_ruled}
 use Rattle.raid_params.specs.Validity.{first_fault}
-use Rattle.raid_params.specs.Wide.{bases_fault, has_bases, wide_fault}
+use Rattle.raid_params.specs.Wide.{has_bases, wide_fault}
 use Rattle.raid_params.specs.declared.limits.TheConstants.{MOST}
-use Rattle.raid_params.specs.declared.types.GeoFault.{GeoFault}
 use Rattle.raid_params.specs.declared.wide.Wide.{Wide}
 use Rattle.raid_params.specs.declared.wide.WideFault.{WideFault}
 use Rattle.raid_params.specs.declared.wide.WideFault.TheVariants.{Bases}
@@ -87,15 +87,11 @@ not_too_long set attached short some = by_zero (length set.bases.items) (length 
 
 -- what a set is that breaks no rule
 pub ruled : (set : Wide) (names end : ℕ) → wide_fault set names end ≡ None → (first_fault set.geo names end ≡ None) × (has_bases names set.geo.slots.items set.bases.items ≡ true)
-ruled set names end e = by_geo (first_fault set.geo names end) e
+ruled set names end e = (wide_ruled set names end e, by_bool (has_bases names set.geo.slots.items set.bases.items) (Bases (length set.bases.items)) (wide_bases set names end e))
   where
     by_bool : (b : Bool) (fault : WideFault) → cond b None (Some fault) ≡ None → b ≡ true
     by_bool true fault e = refl
     by_bool false fault e = absurd (cc)
-
-    by_geo : (fault : Option GeoFault) → bases_fault set names fault ≡ None → (fault ≡ None) × (has_bases names set.geo.slots.items set.bases.items ≡ true)
-    by_geo None e = (refl, by_bool (has_bases names set.geo.slots.items set.bases.items) (Bases (length set.bases.items)) e)
-    by_geo (Some fault) e = absurd (cc)
 
 one_for_each : (names n : ℕ) (left : Bool) → (n == 0 || (n == names && not left)) ≡ true → 0 < n → n ≡ names
 one_for_each names n left is some = grind (arith, nat_tests)

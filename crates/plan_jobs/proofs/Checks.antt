@@ -20,7 +20,7 @@ use Rattle.plan_jobs.proofs.Bases.{may_pad, near_offset, ruled}
 use Rattle.plan_jobs.proofs.Prepared.{images_agree, names_agree}
 use Rattle.run_ends.proofs.CutShort.{cut_ends, cut_images, cut_other, cut_read}
 use Rattle.run_ends.proofs.Printed.{no_raise, order_allowed}
-use Rattle.run_ends.proofs.Refusals.{ruled_shape}
+use Rattle.raid_params.proofs.Ruled.{ruled_shape}
 use Rattle.run_ends.specs.Agreement.{plan_fault}
 use Rattle.plan_jobs.specs.Checking.{check_over, check_reads, check_refusals, check_text, long_refusal, refusal_of, rule_refusal}
 use Rattle.plan_jobs.specs.Plans.{AnswersOver, many_refusal}

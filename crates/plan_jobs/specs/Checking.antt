@@ -34,7 +34,7 @@ abbrev pub refusal_of : WideFault → Refusal
 refusal_of (Geo fault) = Set fault
 refusal_of (WideBases count) = Bases count
 
--- the set breaks a rule, over `names` images and the plan's end; that on its bases is the last one
+-- the set breaks a rule, over `names` images and the plan's end; that on its delay is the last one
 abbrev pub rule_refusal : Wide → ℕ → Plan → Option Refusal
 rule_refusal set names plan = option_map refusal_of (wide_fault set names plan.end)
 

@@ -1,19 +1,20 @@
 -- What passes of the product, tried on small arrays whose answers were worked out by hand.
-use Rattle.std.proofs.Common.{◌≡◌, ◌<◌, ◌+◌, ◌*◌, ℕ, zero, suc, Bool, true, false, ◌&&◌, not, nat_le, count_by, List, [], ◌∷◌, ◌++◌, length, filter, refl, ap, sym, arith, ◌∙◌, Some, replicate, get_or, slice_get, slice_index, slice_index_or}
+use Rattle.std.proofs.Common.{◌≡◌, ◌<◌, ◌+◌, ◌*◌, ℕ, zero, suc, Bool, true, false, ◌&&◌, not, nat_le, count_by, List, [], ◌∷◌, ◌++◌, length, map, filter, refl, ap, sym, arith, ◌∙◌, Some, replicate, get_or, slice_get, slice_index, slice_index_or}
 use Rattle.std.proofs.lemmas.List.{get_or-append-add, get_or_append_left, get_or-replicate, length-replicate}
 use Rattle.std.specs.Option.{option_map_or}
 use Rattle.std.specs.List.{list_all, range_with_len}
 use Rattle.raid_params.specs.declared.types.Bounds.{Bounds}
 use Rattle.raid_params.specs.declared.types.Geometry.{Geometry}
+use Rattle.raid_params.specs.declared.types.Head.{Head}
 use Rattle.raid_params.specs.declared.types.Level.{Level}
 use Rattle.raid_params.specs.declared.types.Level.TheVariants.{Raid5}
 use Rattle.raid_params.specs.declared.types.Pattern.{Pattern}
-use Rattle.raid_params.specs.declared.types.Pattern.TheVariants.{Ls}
+use Rattle.raid_params.specs.declared.types.Pattern.TheVariants.{La, Ls, ParityLast}
 use Rattle.raid_params.specs.declared.types.Syndrome.TheVariants.{NoQ}
 use Rattle.raid_params.specs.declared.types.Cell.{Cell}
 use Rattle.raid_terms.specs.Cells.{row_cells}
 use Rattle.raid_terms.specs.Parity.{passes_parity, is_sound, is_sound_column, is_sound_row, member_column, filled, sum_of}
-use Rattle.search_terms.specs.Product.{product}
+use Rattle.search_terms.specs.Product.{heads, product}
 use Rattle.raid_params.specs.Validity.{is_chunk}
 use Rattle.search_terms.specs.SlotLists.{all_lists}
 use Rattle.raid_params.specs.Slots.{stands, is_distinct, empties}
@@ -23,6 +24,7 @@ bounds_of levels members patterns missing foreign = record {
   levels = record { items = levels };
   members = record { items = members };
   patterns = record { items = patterns };
+  delays = record { items = 1 ∷ [] };
   syndromes = record { items = NoQ ∷ [] };
   chunks = record { items = 1 ∷ [] };
   offsets = record { items = 0 ∷ [] };
@@ -33,6 +35,15 @@ bounds_of levels members patterns missing foreign = record {
 -- left-symmetric over three members, one sector a chunk
 three : Bounds
 three = bounds_of (Raid5 ∷ []) (3 ∷ []) (Ls ∷ []) 0 0
+
+-- each pattern comes with all delays before the next pattern does, and parity that does not move has the delay 1 alone
+rotation_of : Head → Pattern × ℕ
+rotation_of head = (head.pattern, head.delay)
+
+two_delays : map rotation_of (heads (record (bounds_of (Raid5 ∷ []) (3 ∷ []) (La ∷ ParityLast ∷ []) 0 0) { delays = record { items = 1 ∷ 2 ∷ [] } })) ≡
+    (La, 1) ∷ (La, 2) ∷ (ParityLast, 1) ∷ []
+unfolding bounds_of rotation_of is_chunk
+two_delays = refl
 
 sector : ℕ → List ℕ
 sector byte = replicate 512 byte
@@ -97,7 +108,7 @@ in_second u v x below = in_back 512 u v x (512 * (0 + 1) + x) below (omega arith
 
 -- the set of three images in this order
 in_order : ℕ → ℕ → ℕ → Geometry
-in_order i j k = record { head = record { level = Raid5; members = 3; pattern = Ls; syndrome = NoQ; chunk = 1; offset = 0 }; slots = record { items = Some i ∷ Some j ∷ Some k ∷ [] } }
+in_order i j k = record { head = record { level = Raid5; members = 3; pattern = Ls; delay = 1; syndrome = NoQ; chunk = 1; offset = 0 }; slots = record { items = Some i ∷ Some j ∷ Some k ∷ [] } }
 
 first_row : (images : List (List ℕ)) (i j k u v w u' v' w' : ℕ) → slice_index_or images i [] ≡ sector u ++ sector u' → slice_index_or images j [] ≡ sector v ++ sector v' → slice_index_or images k [] ≡ sector w ++ sector w' →
     is_sound_row images (in_order i j k) 0 ≡ is_sound_column (row_cells (in_order i j k) 0) (u ∷ v ∷ w ∷ [])

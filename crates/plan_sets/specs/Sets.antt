@@ -24,7 +24,7 @@ total_of plan = length (sets_of plan)
 abbrev pub is_same_head : Head → Head → Bool
 is_same_head a b =
     (level_place a.level == level_place b.level && a.members == b.members)
-    && ((pattern_place a.pattern == pattern_place b.pattern && syndrome_place a.syndrome == syndrome_place b.syndrome)
+    && (((pattern_place a.pattern == pattern_place b.pattern && a.delay == b.delay) && syndrome_place a.syndrome == syndrome_place b.syndrome)
     && (a.chunk == b.chunk && a.offset == b.offset))
 
 -- two parameter sets are the same, field by field and slot by slot

@@ -1,5 +1,5 @@
 -- The text of a plan tried on a small one, whose spelling was written out by hand.
-use Rattle.std.proofs.Common.{◌≡◌, false, [], ◌∷◌, codes, refl, Option, None, Some}
+use Rattle.std.proofs.Common.{◌≡◌, ℕ, List, false, [], ◌∷◌, codes, refl, Option, None, Some}
 use Rattle.landmark_rules.specs.declared.marks.MarkBounds.{MarkBounds}
 use Rattle.std.specs.Fmt.{digits}
 use Rattle.raid_params.specs.declared.types.Level.TheVariants.{Raid5}
@@ -12,14 +12,15 @@ use Rattle.search_plan.specs.declared.plan.Plan.{Plan}
 use Rattle.plan_text.specs.PlanText.{plan_text}
 
 -- three images of two sectors, left-symmetric, one sector a chunk, with two marks of an XFS
-plan : Option MarkBounds → Plan
-plan bounds = record {
+plan : List ℕ → Option MarkBounds → Plan
+plan delays bounds = record {
   lengths = record { items = 2 ∷ 2 ∷ 2 ∷ [] };
   end = 2;
   bounds = record {
     levels = record { items = Raid5 ∷ [] };
     members = record { items = 3 ∷ [] };
     patterns = record { items = Ls ∷ [] };
+    delays = record { items = delays };
     syndromes = record { items = NoQ ∷ [] };
     chunks = record { items = 1 ∷ [] };
     offsets = record { items = 0 ∷ [] };
@@ -36,11 +37,16 @@ plan bounds = record {
   each = false;
 }
 
-text_of_plan : plan_text (plan None) ≡ codes "reraid-plan 1\nimages 3\nlength 2\nlength 2\nlength 2\nend 2\nlevels 5\nmembers 3\npatterns ls\nsyndromes none\nchunks 1\noffsets 0\norigins 0\nmissing 0\nforeign 0\nbadrows 0\nwindow 2\nmisfits 0\nleast 1\ngroup xfs\nmark super 0 0 every:64:4:0\nmark agf 2 1 at:65\ndone\n"
+text_of_plan : plan_text (plan (1 ∷ []) None) ≡ codes "reraid-plan 1\nimages 3\nlength 2\nlength 2\nlength 2\nend 2\nlevels 5\nmembers 3\npatterns ls\nsyndromes none\nchunks 1\noffsets 0\norigins 0\nmissing 0\nforeign 0\nbadrows 0\nwindow 2\nmisfits 0\nleast 1\ngroup xfs\nmark super 0 0 every:64:4:0\nmark agf 2 1 at:65\ndone\n"
 unfolding plan digits
 text_of_plan = refl
 
 -- the same, where the XFS may have ten misfits and has to have two fits
-text_of_bounds : plan_text (plan (Some (record { misfits = 10; least = 2 }))) ≡ codes "reraid-plan 3\nmode common\nimages 3\nlength 2\nlength 2\nlength 2\nend 2\nlevels 5\nmembers 3\npatterns ls\nsyndromes none\nchunks 1\noffsets 0\norigins 0\nmissing 0\nforeign 0\nbadrows 0\nwindow 2\nmisfits 0\nleast 1\ngroup xfs\nbounds 10 2\nmark super 0 0 every:64:4:0\nmark agf 2 1 at:65\ndone\n"
+text_of_bounds : plan_text (plan (1 ∷ []) (Some (record { misfits = 10; least = 2 }))) ≡ codes "reraid-plan 3\nmode common\nimages 3\nlength 2\nlength 2\nlength 2\nend 2\nlevels 5\nmembers 3\npatterns ls\nsyndromes none\nchunks 1\noffsets 0\norigins 0\nmissing 0\nforeign 0\nbadrows 0\nwindow 2\nmisfits 0\nleast 1\ngroup xfs\nbounds 10 2\nmark super 0 0 every:64:4:0\nmark agf 2 1 at:65\ndone\n"
 unfolding plan digits
 text_of_bounds = refl
+
+-- and where parity may stay for one row or for 16
+text_of_delays : plan_text (plan (1 ∷ 16 ∷ []) None) ≡ codes "reraid-plan 3\nmode common\nimages 3\nlength 2\nlength 2\nlength 2\nend 2\nlevels 5\nmembers 3\npatterns ls\ndelays 1,16\nsyndromes none\nchunks 1\noffsets 0\norigins 0\nmissing 0\nforeign 0\nbadrows 0\nwindow 2\nmisfits 0\nleast 1\ngroup xfs\nmark super 0 0 every:64:4:0\nmark agf 2 1 at:65\ndone\n"
+unfolding plan digits
+text_of_delays = refl

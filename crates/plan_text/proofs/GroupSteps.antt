@@ -16,7 +16,7 @@ use Rattle.plan_text.specs.declared.draft.Draft.{Draft}
 use Rattle.plan_text.specs.declared.entry.Entry.{Entry}
 use Rattle.plan_text.specs.declared.entry.Entry.TheVariants.{Bounds as BoundsEntry, Done, Group as GroupEntry, Mark as MarkEntry}
 use Rattle.plan_text.specs.Drafts.{AreGroupsWith, IsDraft, IsEntry, IsFresh, IsSpelledMark, MayAddTo, MayBegin, MayEnd, MayFollow, empty_group, entry_line, with_bounds, with_mark, with_open}
-use Rattle.plan_text.specs.PlanText.{bounds_line, bounds_lines, group_lines, groups_lines, mark_line, some_bounds}
+use Rattle.plan_text.specs.PlanText.{bounds_line, bounds_lines, group_lines, groups_lines, mark_line, says_more, some_bounds}
 use Rattle.plan_text.proofs.Grouping.{AreSpelled, HasBounds, HasGroup, HasMark, goes, group_line, group_with}
 use Rattle.plan_text.proofs.GroupRules.{front, draft_added, draft_with, may_begin, may_bound, had_begun, had_gone_on, may_add, had_added}
 use Rattle.plan_text.proofs.Refusals.{StandsIn, one_line}
@@ -29,7 +29,7 @@ fresh_is g fresh = let same : group_with g.kind g.bounds g.marks ≡ group_with 
 pub bounds_after : (xs ys : List Group) → some_bounds (xs ++ ys) ≡ (some_bounds xs || some_bounds ys)
 bounds_after xs ys = list_any-append (λ (group : Group). is_some group.bounds) xs ys
 
-or_true : (b : Bool) → (b || true) ≡ true
+pub or_true : (b : Bool) → (b || true) ≡ true
 or_true true = refl
 or_true false = refl
 
@@ -41,8 +41,23 @@ pub bounds_alike : (closed : List Group) (g h : Group) → g.bounds ≡ h.bounds
 bounds_alike closed g h same =
     bounds_after closed (g ∷ []) ∙ ap (λ (b : Option MarkBounds). some_bounds closed || (is_some b || false)) same ∙ sym (bounds_after closed (h ∷ []))
 
-pub bounds_none : (gs : List Group) (kind : GroupKind) → some_bounds gs ≡ false → some_bounds (gs ++ empty_group kind ∷ []) ≡ false
-bounds_none gs kind none = bounds_after gs (empty_group kind ∷ []) ∙ ap (λ (b : Bool). b || false) none
+or_false : (b : Bool) → (b || false) ≡ b
+or_false true = refl
+or_false false = refl
+
+-- a plan with such a group says more
+pub says_last : (delayed : Bool) (gs : List Group) (kind : GroupKind) (bounds : MarkBounds) (marks : List Mark) (rest : List Group) → says_more delayed (gs ++ group_with kind (Some bounds) marks ∷ rest) ≡ true
+says_last delayed gs kind bounds marks rest = ap (λ (b : Bool). delayed || b) (bounds_last gs kind bounds marks rest) ∙ or_true delayed
+
+-- and one with a group of no bounds says what it said
+pub says_alike : (delayed : Bool) (closed : List Group) (g h : Group) → g.bounds ≡ h.bounds → says_more delayed (closed ++ g ∷ []) ≡ says_more delayed (closed ++ h ∷ [])
+says_alike delayed closed g h same = ap (λ (b : Bool). delayed || b) (bounds_alike closed g h same)
+
+pub bounds_begun : (gs : List Group) (kind : GroupKind) → some_bounds (gs ++ empty_group kind ∷ []) ≡ some_bounds gs
+bounds_begun gs kind = bounds_after gs (empty_group kind ∷ []) ∙ or_false (some_bounds gs)
+
+pub says_begun : (delayed : Bool) (gs : List Group) (kind : GroupKind) → says_more delayed (gs ++ empty_group kind ∷ []) ≡ says_more delayed gs
+says_begun delayed gs kind = ap (λ (b : Bool). delayed || b) (bounds_begun gs kind)
 
 pub no_bounds : MarkBounds
 no_bounds = record { misfits = 0; least = 0 }
@@ -112,13 +127,13 @@ pub held : {A : Type 0} (P : A → Type 0) (last : Option A) → MatchOption las
 held P None h = absurd h
 held P (Some g) h = (g, refl, h)
 
-Follows : Bool → List ℕ → Draft → List (List ℕ) → Type 0
-Follows own lengths draft tail = (e : Entry) × (r : List (List ℕ)) × (IsEntry e × MayFollow own lengths draft e) × (tail ≡ (entry_line e ∷ []) ++ r)
+Follows : Bool → Bool → List ℕ → Draft → List (List ℕ) → Type 0
+Follows third delayed lengths draft tail = (e : Entry) × (r : List (List ℕ)) × (IsEntry e × MayFollow third delayed lengths draft e) × (tail ≡ (entry_line e ∷ []) ++ r)
 
-after_group : (own : Bool) (lengths : List ℕ) (closed : List Group) (last : Option Group) (groups marks : List ℕ) (qs : List Group) (tail : List (List ℕ)) → IsDraft (draft_with closed last groups marks) → AreGroups lengths qs → HasGroup (with_open closed last) qs tail →
-    Follows own lengths (draft_with closed last groups marks) tail
+after_group : (third delayed : Bool) (lengths : List ℕ) (closed : List Group) (last : Option Group) (groups marks : List ℕ) (qs : List Group) (tail : List (List ℕ)) → IsDraft (draft_with closed last groups marks) → AreGroups lengths qs → HasGroup (with_open closed last) qs tail →
+    Follows third delayed lengths (draft_with closed last groups marks) tail
 unfolding Follows
-after_group own lengths closed last groups marks qs tail draft are h =
+after_group third delayed lengths closed last groups marks qs tail draft are h =
     let whole : AreGroups lengths (with_open closed last ++ group_with h.0 h.1 h.2 ∷ h.3) = subst (AreGroups lengths) h.5 are in
     let first = front lengths (with_open closed last) h.0 h.1 None [] h.2 h.3 tt whole in
     (GroupEntry h.0, h.4, (tt, had_begun lengths closed last groups marks h.0 draft first), h.6)
@@ -132,39 +147,39 @@ bounds_at lengths (h ∷ closed) g rest are = within closed (All-tail (λ (x : G
     within [] all = All-head (λ (x : Group). IfSome x.bounds AreMarkBounds) g rest all
     within (x ∷ xs) all = within xs (All-tail (λ (x : Group). IfSome x.bounds AreMarkBounds) x (xs ++ g ∷ rest) all)
 
-after_bounds : (own : Bool) (lengths : List ℕ) (closed : List Group) (last : Option Group) (groups marks : List ℕ) (qs : List Group) (tail : List (List ℕ)) → IsDraft (draft_with closed last groups marks) → AreGroupsWith own lengths qs → HasBounds (with_open closed last) qs tail →
-    Follows own lengths (draft_with closed last groups marks) tail
+after_bounds : (third delayed : Bool) (lengths : List ℕ) (closed : List Group) (last : Option Group) (groups marks : List ℕ) (qs : List Group) (tail : List (List ℕ)) → IsDraft (draft_with closed last groups marks) → AreGroupsWith third delayed lengths qs → HasBounds (with_open closed last) qs tail →
+    Follows third delayed lengths (draft_with closed last groups marks) tail
 unfolding Follows
-after_bounds own lengths closed None groups marks qs tail draft are h =
+after_bounds third delayed lengths closed None groups marks qs tail draft are h =
     let none : closed ≡ [] = draft.none refl in
     let same = ap length (sym none ∙ h.6) in
     let more = length-append h.0 (group_with h.1 None [] ∷ []) in
     absurd (omega arith)
-after_bounds own lengths closed (Some g) groups marks qs tail draft are h =
+after_bounds third delayed lengths closed (Some g) groups marks qs tail draft are h =
     let both = same_push closed h.0 g (group_with h.1 None []) h.6 in
     let fresh : IsFresh g = record { bare = ap (λ (x : Group). x.bounds) both.1; empty = ap (λ (x : Group). x.marks) both.1 } in
     let whole : AreGroups lengths (h.0 ++ group_with h.1 (Some h.2) h.3 ∷ h.4) = subst (AreGroups lengths) h.7 are.0 in
-    let is : own ≡ true = sym are.1 ∙ ap some_bounds h.7 ∙ bounds_last h.0 h.1 h.2 h.3 h.4 in
+    let is : third ≡ true = sym are.1 ∙ ap (says_more delayed) h.7 ∙ says_last delayed h.0 h.1 h.2 h.3 h.4 in
     (BoundsEntry h.2, h.5, (bounds_at lengths h.0 (group_with h.1 (Some h.2) h.3) h.4 whole, (is, fresh)), h.8)
 
 -- groups that have bounds after the last group of a draft, where none of the draft has: one more group may begin
-later_bounds : (own : Bool) (lengths : List ℕ) (closed : List Group) (g : Group) (groups marks : List ℕ) (ms : List Mark) (rest : List Group) → IsDraft (draft_with closed (Some g) groups marks) → AreGroups lengths (closed ++ group_with g.kind g.bounds ms ∷ rest) →
-    some_bounds (closed ++ group_with g.kind g.bounds ms ∷ rest) ≡ own → MayEnd own (draft_with closed (Some g) groups marks)
-later_bounds own lengths closed g groups marks ms [] draft are some is = inl (bounds_alike closed g (group_with g.kind g.bounds ms) refl ∙ some ∙ is)
-later_bounds own lengths closed g groups marks ms (r ∷ rest) draft are some is =
+later_bounds : (third delayed : Bool) (lengths : List ℕ) (closed : List Group) (g : Group) (groups marks : List ℕ) (ms : List Mark) (rest : List Group) → IsDraft (draft_with closed (Some g) groups marks) → AreGroups lengths (closed ++ group_with g.kind g.bounds ms ∷ rest) →
+    says_more delayed (closed ++ group_with g.kind g.bounds ms ∷ rest) ≡ third → MayEnd third delayed (draft_with closed (Some g) groups marks)
+later_bounds third delayed lengths closed g groups marks ms [] draft are some is = inl (says_alike delayed closed g (group_with g.kind g.bounds ms) refl ∙ some ∙ is)
+later_bounds third delayed lengths closed g groups marks ms (r ∷ rest) draft are some is =
     let apart : AreGroups lengths ((closed ++ group_with g.kind g.bounds ms ∷ []) ++ group_with r.kind r.bounds r.marks ∷ rest) = subst (AreGroups lengths) (sym (append_assoc closed (group_with g.kind g.bounds ms ∷ []) (r ∷ rest))) are in
     let first = front lengths (closed ++ group_with g.kind g.bounds ms ∷ []) r.kind r.bounds None [] r.marks rest tt apart in
     inr (r.kind, had_gone_on lengths closed g ms groups marks r.kind draft first)
 
-after_mark : (own : Bool) (lengths : List ℕ) (closed : List Group) (last : Option Group) (groups marks : List ℕ) (qs : List Group) (tail : List (List ℕ)) → AreLengths lengths → IsDraft (draft_with closed last groups marks) → AreGroupsWith own lengths qs → HasMark (with_open closed last) qs tail →
-    Follows own lengths (draft_with closed last groups marks) tail
+after_mark : (third delayed : Bool) (lengths : List ℕ) (closed : List Group) (last : Option Group) (groups marks : List ℕ) (qs : List Group) (tail : List (List ℕ)) → AreLengths lengths → IsDraft (draft_with closed last groups marks) → AreGroupsWith third delayed lengths qs → HasMark (with_open closed last) qs tail →
+    Follows third delayed lengths (draft_with closed last groups marks) tail
 unfolding Follows
-after_mark own lengths closed None groups marks qs tail lens draft are h =
+after_mark third delayed lengths closed None groups marks qs tail lens draft are h =
     let none : closed ≡ [] = draft.none refl in
     let same = ap length (sym none ∙ h.6) in
     let more = length-append h.0 (h.1 ∷ []) in
     absurd (omega arith)
-after_mark own lengths closed (Some g) groups marks qs tail lens draft are h =
+after_mark third delayed lengths closed (Some g) groups marks qs tail lens draft are h =
     let both = same_push closed h.0 g h.1 h.6 in
     let at_closed : h.0 ≡ closed = sym both.0 in
     let at_last : h.1 ≡ g = sym both.1 in
@@ -176,7 +191,7 @@ after_mark own lengths closed (Some g) groups marks qs tail lens draft are h =
     let bound = bounds_at lengths closed (group_with g.kind g.bounds (g.marks ++ m ∷ h.3)) h.4 there in
     let first = front lengths closed g.kind g.bounds g.bounds (g.marks ++ m ∷ []) h.3 h.4 bound apart in
     let may = had_added lengths closed g groups marks m draft first in
-    let ends = later_bounds own lengths closed g groups marks (g.marks ++ m ∷ h.3) h.4 draft there (ap some_bounds (sym is) ∙ are.1) in
+    let ends = later_bounds third delayed lengths closed g groups marks (g.marks ++ m ∷ h.3) h.4 draft there (ap (says_more delayed) (sym is) ∙ are.1) in
     (MarkEntry m, h.5, (is_spelled lengths g.kind m lens may.is_mark, (may, ends)), h.8)
 
 -- a group of a kind may begin after a mark where it might before
@@ -184,70 +199,70 @@ pub still_begins : (closed : List Group) (g : Group) (m : Mark) (groups marks mo
 still_begins closed g m groups marks more kind may = record { order = may.order; few = may.few }
 
 -- some plan goes on with an entry that may follow
-Whole : Bool → List ℕ → List Group → Entry → Type 0
-Whole own lengths gs e = (w : List Group) × (r : List (List ℕ)) × AreGroupsWith own lengths w × (groups_lines w ≡ flat_map group_lines gs ++ ((entry_line e ∷ []) ++ r))
+Whole : Bool → Bool → List ℕ → List Group → Entry → Type 0
+Whole third delayed lengths gs e = (w : List Group) × (r : List (List ℕ)) × AreGroupsWith third delayed lengths w × (groups_lines w ≡ flat_map group_lines gs ++ ((entry_line e ∷ []) ++ r))
 
 -- the groups of this list are such a plan's, whose lines begin so
-ended : (own : Bool) (lengths : List ℕ) (gs : List Group) (e : Entry) (w : List Group) (more : List (List ℕ)) → AreGroups lengths w → some_bounds w ≡ own → flat_map group_lines w ≡ flat_map group_lines gs ++ entry_line e ∷ more → Whole own lengths gs e
+ended : (third delayed : Bool) (lengths : List ℕ) (gs : List Group) (e : Entry) (w : List Group) (more : List (List ℕ)) → AreGroups lengths w → says_more delayed w ≡ third → flat_map group_lines w ≡ flat_map group_lines gs ++ entry_line e ∷ more → Whole third delayed lengths gs e
 unfolding Whole
-ended own lengths gs e w more are some lines = (
+ended third delayed lengths gs e w more are some lines = (
   w,
   more ++ codes "done" ∷ [],
   (are, some),
   ap (λ (ls : List (List ℕ)). ls ++ codes "done" ∷ []) lines ∙ append_assoc (flat_map group_lines gs) (entry_line e ∷ more) (codes "done" ∷ []),
 )
 
-goes_on : (own : Bool) (lengths : List ℕ) (closed : List Group) (last : Option Group) (groups marks : List ℕ) (kind : GroupKind) → IsDraft (draft_with closed last groups marks) → AreGroups lengths (with_open closed last) → (own ≡ false → some_bounds (with_open closed last) ≡ false) →
-    MayBegin (draft_with closed last groups marks) kind → Whole own lengths (with_open closed last) (GroupEntry kind)
-goes_on false lengths closed last groups marks kind draft are bare may =
-    ended false lengths (with_open closed last) (GroupEntry kind) (with_open closed last ++ empty_group kind ∷ []) [] (may_begin lengths closed last groups marks kind None tt draft are may) (bounds_none (with_open closed last) kind (bare refl)) (more_groups (with_open closed last) kind)
-goes_on true lengths closed last groups marks kind draft are bare may =
-    ended true lengths (with_open closed last) (GroupEntry kind) (with_open closed last ++ group_with kind (Some no_bounds) [] ∷ []) (bounds_line no_bounds ∷ []) (may_begin lengths closed last groups marks kind (Some no_bounds) are_no_bounds draft are may)
-    (bounds_last (with_open closed last) kind no_bounds [] []) (more_bounded (with_open closed last) kind no_bounds)
+goes_on : (third delayed : Bool) (lengths : List ℕ) (closed : List Group) (last : Option Group) (groups marks : List ℕ) (kind : GroupKind) → IsDraft (draft_with closed last groups marks) → AreGroups lengths (with_open closed last) → (third ≡ false → says_more delayed (with_open closed last) ≡ false) →
+    MayBegin (draft_with closed last groups marks) kind → Whole third delayed lengths (with_open closed last) (GroupEntry kind)
+goes_on false delayed lengths closed last groups marks kind draft are bare may =
+    ended false delayed lengths (with_open closed last) (GroupEntry kind) (with_open closed last ++ empty_group kind ∷ []) [] (may_begin lengths closed last groups marks kind None tt draft are may) (says_begun delayed (with_open closed last) kind ∙ bare refl) (more_groups (with_open closed last) kind)
+goes_on true delayed lengths closed last groups marks kind draft are bare may =
+    ended true delayed lengths (with_open closed last) (GroupEntry kind) (with_open closed last ++ group_with kind (Some no_bounds) [] ∷ []) (bounds_line no_bounds ∷ []) (may_begin lengths closed last groups marks kind (Some no_bounds) are_no_bounds draft are may)
+    (says_last delayed (with_open closed last) kind no_bounds [] []) (more_bounded (with_open closed last) kind no_bounds)
 
-marked_whole : (own : Bool) (lengths : List ℕ) (closed : List Group) (g : Group) (m : Mark) → AreGroups lengths (closed ++ with_mark g m ∷ []) → some_bounds (closed ++ g ∷ []) ≡ own → Whole own lengths (closed ++ g ∷ []) (MarkEntry m)
-marked_whole own lengths closed g m are some = ended own lengths (closed ++ g ∷ []) (MarkEntry m) (closed ++ with_mark g m ∷ []) [] are (bounds_alike closed (with_mark g m) g refl ∙ some) (more_marks closed g m)
+marked_whole : (third delayed : Bool) (lengths : List ℕ) (closed : List Group) (g : Group) (m : Mark) → AreGroups lengths (closed ++ with_mark g m ∷ []) → says_more delayed (closed ++ g ∷ []) ≡ third → Whole third delayed lengths (closed ++ g ∷ []) (MarkEntry m)
+marked_whole third delayed lengths closed g m are some = ended third delayed lengths (closed ++ g ∷ []) (MarkEntry m) (closed ++ with_mark g m ∷ []) [] are (says_alike delayed closed (with_mark g m) g refl ∙ some) (more_marks closed g m)
 
-goes_on_marked : (own : Bool) (lengths : List ℕ) (closed : List Group) (g : Group) (groups marks : List ℕ) (m : Mark) → IsDraft (draft_with closed (Some g) groups marks) → AreGroups lengths (closed ++ g ∷ []) → (own ≡ false → some_bounds (closed ++ g ∷ []) ≡ false) →
-    MayAddTo lengths (draft_with closed (Some g) groups marks) g m → MayEnd own (draft_with closed (Some g) groups marks) → Whole own lengths (closed ++ g ∷ []) (MarkEntry m)
-goes_on_marked false lengths closed g groups marks m draft are bare may ends = marked_whole false lengths closed g m (may_add lengths closed g groups marks m draft are may) (bare refl)
-goes_on_marked true lengths closed g groups marks m draft are bare may ends =
+goes_on_marked : (third delayed : Bool) (lengths : List ℕ) (closed : List Group) (g : Group) (groups marks : List ℕ) (m : Mark) → IsDraft (draft_with closed (Some g) groups marks) → AreGroups lengths (closed ++ g ∷ []) → (third ≡ false → says_more delayed (closed ++ g ∷ []) ≡ false) →
+    MayAddTo lengths (draft_with closed (Some g) groups marks) g m → MayEnd third delayed (draft_with closed (Some g) groups marks) → Whole third delayed lengths (closed ++ g ∷ []) (MarkEntry m)
+goes_on_marked false delayed lengths closed g groups marks m draft are bare may ends = marked_whole false delayed lengths closed g m (may_add lengths closed g groups marks m draft are may) (bare refl)
+goes_on_marked true delayed lengths closed g groups marks m draft are bare may ends =
     let marked = may_add lengths closed g groups marks m draft are may in
     elim (ends refl) [
-      | inl some ↦ marked_whole true lengths closed g m marked some
+      | inl some ↦ marked_whole true delayed lengths closed g m marked some
       | inr later ↦ (
           let p = kind_place m.kind in
           let more = set marks p (get_or marks p 0 + 1) in
           let after = draft_added closed g groups marks m p refl draft in
           let begins = still_begins closed g m groups marks more later.0 later.1 in
           let both = may_begin lengths closed (Some (with_mark g m)) groups more later.0 (Some no_bounds) are_no_bounds after marked begins in
-          ended true lengths (closed ++ g ∷ []) (MarkEntry m) ((closed ++ with_mark g m ∷ []) ++ group_with later.0 (Some no_bounds) [] ∷ []) (group_line later.0 ∷ bounds_line no_bounds ∷ []) both (bounds_last (closed ++ with_mark g m ∷ []) later.0 no_bounds [] [])
+          ended true delayed lengths (closed ++ g ∷ []) (MarkEntry m) ((closed ++ with_mark g m ∷ []) ++ group_with later.0 (Some no_bounds) [] ∷ []) (group_line later.0 ∷ bounds_line no_bounds ∷ []) both (says_last delayed (closed ++ with_mark g m ∷ []) later.0 no_bounds [] [])
           (more_bounded (closed ++ with_mark g m ∷ []) later.0 no_bounds ∙ ap (λ (ls : List (List ℕ)). ls ++ group_line later.0 ∷ bounds_line no_bounds ∷ []) (more_marks closed g m)
           ∙ append_assoc (flat_map group_lines (closed ++ g ∷ [])) (mark_line m ∷ []) (group_line later.0 ∷ bounds_line no_bounds ∷ []))
           )
     ]
 
-pub stands_entry : (own : Bool) (lengths : List ℕ) (closed : List Group) (last : Option Group) (groups marks : List ℕ) → AreLengths lengths → IsDraft (draft_with closed last groups marks) → AreGroups lengths (with_open closed last) → (own ≡ false → some_bounds (with_open closed last) ≡ false) →
-    StandsIn (λ (e : Entry). IsEntry e × MayFollow own lengths (draft_with closed last groups marks) e) (λ e. entry_line e ∷ []) (AreGroupsWith own lengths) groups_lines (flat_map group_lines (with_open closed last))
+pub stands_entry : (third delayed : Bool) (lengths : List ℕ) (closed : List Group) (last : Option Group) (groups marks : List ℕ) → AreLengths lengths → IsDraft (draft_with closed last groups marks) → AreGroups lengths (with_open closed last) → (third ≡ false → says_more delayed (with_open closed last) ≡ false) →
+    StandsIn (λ (e : Entry). IsEntry e × MayFollow third delayed lengths (draft_with closed last groups marks) e) (λ e. entry_line e ∷ []) (AreGroupsWith third delayed lengths) groups_lines (flat_map group_lines (with_open closed last))
 unfolding Follows Whole
-stands_entry own lengths closed last groups marks lens draft are bare = record {
+stands_entry third delayed lengths closed last groups marks lens draft are bare = record {
   made = λ e p. wholes e last draft are bare p;
   shape = λ w tail is e. elim (goes (with_open closed last) w tail (are_spelled lengths (with_open closed last) lens are) (are_spelled lengths w lens is.0) e) [
-    | inl h ↦ (Done, [], (tt, ap some_bounds (sym h.0) ∙ is.1), h.1)
+    | inl h ↦ (Done, [], (tt, ap (says_more delayed) (sym h.0) ∙ is.1), h.1)
     | inr h ↦ elim h [
-      | inl g ↦ after_group own lengths closed last groups marks w tail draft is.0 g
-      | inr g ↦ elim g [ inl b ↦ after_bounds own lengths closed last groups marks w tail draft is b | inr m ↦ after_mark own lengths closed last groups marks w tail lens draft is m ]
+      | inl g ↦ after_group third delayed lengths closed last groups marks w tail draft is.0 g
+      | inr g ↦ elim g [ inl b ↦ after_bounds third delayed lengths closed last groups marks w tail draft is b | inr m ↦ after_mark third delayed lengths closed last groups marks w tail lens draft is m ]
     ]
   ];
   apart = λ x y m more p q e. one_line entry_line x y m more e;
 }
   where
-    wholes : (e : Entry) (last : Option Group) → IsDraft (draft_with closed last groups marks) → AreGroups lengths (with_open closed last) → (own ≡ false → some_bounds (with_open closed last) ≡ false) → IsEntry e × MayFollow own lengths (draft_with closed last groups marks) e →
-        Whole own lengths (with_open closed last) e
+    wholes : (e : Entry) (last : Option Group) → IsDraft (draft_with closed last groups marks) → AreGroups lengths (with_open closed last) → (third ≡ false → says_more delayed (with_open closed last) ≡ false) → IsEntry e × MayFollow third delayed lengths (draft_with closed last groups marks) e →
+        Whole third delayed lengths (with_open closed last) e
     wholes Done last draft are bare p = (with_open closed last, [], (are, p.1), refl)
-    wholes (GroupEntry kind) last draft are bare p = goes_on own lengths closed last groups marks kind draft are bare p.1
+    wholes (GroupEntry kind) last draft are bare p = goes_on third delayed lengths closed last groups marks kind draft are bare p.1
     wholes (BoundsEntry b) None draft are bare p = absurd p.1.1
     wholes (BoundsEntry b) (Some g) draft are bare p =
-        ended own lengths (closed ++ g ∷ []) (BoundsEntry b) (closed ++ with_bounds g b ∷ []) [] (may_bound lengths closed g b p.0 are) (bounds_last closed g.kind b g.marks [] ∙ sym p.1.0) (more_bounds closed g b p.1.1)
+        ended third delayed lengths (closed ++ g ∷ []) (BoundsEntry b) (closed ++ with_bounds g b ∷ []) [] (may_bound lengths closed g b p.0 are) (says_last delayed closed g.kind b g.marks [] ∙ sym p.1.0) (more_bounds closed g b p.1.1)
     wholes (MarkEntry m) None draft are bare p = absurd p.1.0
-    wholes (MarkEntry m) (Some g) draft are bare p = goes_on_marked own lengths closed g groups marks m draft are bare p.1.0 p.1.1
+    wholes (MarkEntry m) (Some g) draft are bare p = goes_on_marked third delayed lengths closed g groups marks m draft are bare p.1.0 p.1.1

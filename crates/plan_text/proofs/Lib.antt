@@ -2,7 +2,9 @@ pub mod Refusals
 pub mod OneLine
 pub mod Versions
 pub mod Counts
+pub mod DelayLines
 pub mod SectionLines
+pub mod AfterPatterns
 pub mod SearchLines
 pub mod ImageLines
 pub mod Entries

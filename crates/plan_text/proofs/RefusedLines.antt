@@ -9,18 +9,20 @@ use Rattle.landmark_rules.specs.declared.marks.Group.{Group}
 use Rattle.landmark_rules.specs.declared.marks.Mark.{Mark}
 use Rattle.landmark_rules.specs.declared.marks.MarkBounds.{MarkBounds}
 use Rattle.landmark_rules.specs.Groups.{AreMarkBounds}
+use Rattle.raid_params.specs.declared.types.Syndrome.{Syndrome}
 use Rattle.search_plan.specs.declared.plan.Plan.{Plan}
 use Rattle.search_plan.specs.Plans.{AreLengths, IsPlan}
 use Rattle.plan_text.specs.declared.fault.PlanFault.{PlanFault}
 use Rattle.plan_text.specs.declared.fault.PlanFault.TheVariants.{Line, Memory}
 use Rattle.plan_text.specs.Drafts.{IsSpelledMark, entry_line}
 use Rattle.value_text.specs.NameLaws.{level_law, pattern_law, syndrome_law, byte_law, number_law}
-use Rattle.plan_text.specs.PlanText.{Begins, IsFault, IsLine, IsRefusedLine, bounds_line, bounds_lines, group_lines, groups_lines, image_lines, mark_line, mode_line, older_number, plan_lines, plan_text, search_lines, some_bounds, version_lines}
+use Rattle.plan_text.specs.PlanText.{Begins, IsFault, IsLine, IsRefusedLine, bounds_line, bounds_lines, counts_lines, delays_line, group_lines, groups_lines, image_lines, mark_line, mode_line, older_number, plan_lines, plan_text, says_more, search_lines, sizes_lines, some_delays, syndromes_line, version_lines}
 use Rattle.plan_text.specs.Reading.{Cursor, IsOff, IsRefusal, followed}
 use Rattle.value_text.specs.Spelling.{level_name, pattern_name, syndrome_name, line, named}
 use Rattle.plan_text.specs.declared.entry.Entry.TheVariants.{Bounds as BoundsEntry, Done, Group as GroupEntry, Mark as MarkEntry}
 use Rattle.plan_text.proofs.EntryLines.{an_entry_line}
-use Rattle.value_text.proofs.Fits.{members_are_bytes, chunks_are_short, offsets_are_short}
+use Rattle.value_text.proofs.Fits.{members_are_bytes, chunks_are_short, delays_are_short, offsets_are_short}
+use Rattle.plan_text.proofs.DelayLines.{orders_by}
 use Rattle.plan_text.proofs.GroupSteps.{are_spelled}
 use Rattle.plan_text.proofs.Grouping.{AreSpelled}
 use Rattle.plan_text.proofs.ImageLines.{length_line}
@@ -83,7 +85,7 @@ pub mode_plain : (each : Bool) → IsLine (mode_line each)
 mode_plain false = a_line (codes "mode common") refl
 mode_plain true = a_line (codes "mode each") refl
 
-version_plain : (each own : Bool) → All IsLine (version_lines each own)
+version_plain : (each third : Bool) → All IsLine (version_lines each third)
 version_plain each false = All-cons IsLine (named (codes "reraid-plan") (decimal (older_number each))) [] (older_plain each) (All-nil IsLine)
 version_plain each true =
     All-cons IsLine (named (codes "reraid-plan") (decimal 3)) (mode_line each ∷ []) (number_line (codes "reraid-plan ") (a_line (codes "reraid-plan ") refl) 3 (omega arith))
@@ -99,6 +101,15 @@ end_is_short plan is =
 numbered : (word : List ℕ) → IsLine word → (n : ℕ) → n < 2 ^ 55 → IsLine (word ++ decimal n)
 numbered word is n small = number_line word is n (omega arith)
 
+-- with a line of delays and without
+plain_orders : (b : Bool) (ds : List ℕ) (ss : List Syndrome) (rest : List (List ℕ)) → IsLine (delays_line ds) → ArePlain (syndromes_line ss ∷ rest) → ArePlain (orders_by b ds ss ++ rest)
+plain_orders true ds ss rest line p = (line, p)
+plain_orders false ds ss rest line p = p
+
+-- a plan has more to say than versions 1 and 2 can
+abbrev third_of : Plan → Bool
+third_of plan = says_more (some_delays plan.bounds.delays.items) plan.groups
+
 search_plain : (plan : Plan) → IsPlan plan → All IsLine (search_lines plan.end plan.bounds plan.limits plan.tests)
 search_plain plan is =
     let b = is.bounds in
@@ -112,25 +123,28 @@ search_plain plan is =
           word_line decimal (λ n. n < 2 ^ 8) byte_law (codes "members ") (a_line (codes "members ") refl) plan.bounds.members.items (members_are_bytes plan.bounds.members.items b.few_members),
           (
             word_line pattern_name (λ x. Unit {0}) pattern_law (codes "patterns ") (a_line (codes "patterns ") refl) plan.bounds.patterns.items (λ k d lt. tt),
-            (
-              word_line syndrome_name (λ x. Unit {0}) syndrome_law (codes "syndromes ") (a_line (codes "syndromes ") refl) plan.bounds.syndromes.items (λ k d lt. tt),
-              (
-                word_line decimal (λ n. n < 2 ^ 64) number_law (codes "chunks ") (a_line (codes "chunks ") refl) plan.bounds.chunks.items (chunks_are_short plan.bounds.chunks.items b.powers),
-                (
-                  word_line decimal (λ n. n < 2 ^ 64) number_law (codes "offsets ") (a_line (codes "offsets ") refl) plan.bounds.offsets.items (offsets_are_short plan.bounds.offsets.items b.near_offsets),
+            plain_orders (some_delays plan.bounds.delays.items) plan.bounds.delays.items plan.bounds.syndromes.items (sizes_lines plan.bounds plan.tests ++ counts_lines plan.bounds plan.limits plan.tests)
+                (word_line decimal (λ n. n < 2 ^ 64) number_law (codes "delays ") (a_line (codes "delays ") refl) plan.bounds.delays.items (delays_are_short plan.bounds.delays.items b.short_delays)) (
+                  word_line syndrome_name (λ x. Unit {0}) syndrome_law (codes "syndromes ") (a_line (codes "syndromes ") refl) plan.bounds.syndromes.items (λ k d lt. tt),
                   (
-                    word_line decimal (λ n. n < 2 ^ 64) number_law (codes "origins ") (a_line (codes "origins ") refl) plan.tests.origins.items (offsets_are_short plan.tests.origins.items t.near_origins),
+                    word_line decimal (λ n. n < 2 ^ 64) number_law (codes "chunks ") (a_line (codes "chunks ") refl) plan.bounds.chunks.items (chunks_are_short plan.bounds.chunks.items b.powers),
                     (
-                      numbered (codes "missing ") (a_line (codes "missing ") refl) plan.bounds.missing (let small = b.missing in omega arith),
+                      word_line decimal (λ n. n < 2 ^ 64) number_law (codes "offsets ") (a_line (codes "offsets ") refl) plan.bounds.offsets.items (offsets_are_short plan.bounds.offsets.items b.near_offsets),
                       (
-                        numbered (codes "foreign ") (a_line (codes "foreign ") refl) plan.bounds.foreign (let small = b.foreign in omega arith),
+                        word_line decimal (λ n. n < 2 ^ 64) number_law (codes "origins ") (a_line (codes "origins ") refl) plan.tests.origins.items (offsets_are_short plan.tests.origins.items t.near_origins),
                         (
-                          numbered (codes "badrows ") (a_line (codes "badrows ") refl) plan.limits.badrows l.badrows,
+                          numbered (codes "missing ") (a_line (codes "missing ") refl) plan.bounds.missing (let small = b.missing in omega arith),
                           (
-                            numbered (codes "window ") (a_line (codes "window ") refl) plan.limits.window l.window,
+                            numbered (codes "foreign ") (a_line (codes "foreign ") refl) plan.bounds.foreign (let small = b.foreign in omega arith),
                             (
-                              numbered (codes "misfits ") (a_line (codes "misfits ") refl) plan.tests.misfits t.misfits,
-                              (numbered (codes "least ") (a_line (codes "least ") refl) plan.tests.least t.least, tt),
+                              numbered (codes "badrows ") (a_line (codes "badrows ") refl) plan.limits.badrows l.badrows,
+                              (
+                                numbered (codes "window ") (a_line (codes "window ") refl) plan.limits.window l.window,
+                                (
+                                  numbered (codes "misfits ") (a_line (codes "misfits ") refl) plan.tests.misfits t.misfits,
+                                  (numbered (codes "least ") (a_line (codes "least ") refl) plan.tests.least t.least, tt),
+                                ),
+                              ),
                             ),
                           ),
                         ),
@@ -138,8 +152,6 @@ search_plain plan is =
                     ),
                   ),
                 ),
-              ),
-            ),
           ),
         ),
       ),
@@ -164,7 +176,7 @@ groups_plain (g ∷ gs) p =
 
 pub plain_lines : (plan : Plan) → IsPlan plan → All IsLine (plan_lines plan)
 plain_lines plan is =
-    All-append IsLine (version_lines plan.each (some_bounds plan.groups)) (image_lines plan.lengths.items ++ (search_lines plan.end plan.bounds plan.limits plan.tests ++ groups_lines plan.groups)) (version_plain plan.each (some_bounds plan.groups))
+    All-append IsLine (version_lines plan.each (third_of plan)) (image_lines plan.lengths.items ++ (search_lines plan.end plan.bounds plan.limits plan.tests ++ groups_lines plan.groups)) (version_plain plan.each (third_of plan))
     (All-append IsLine (image_lines plan.lengths.items) (search_lines plan.end plan.bounds plan.limits plan.tests ++ groups_lines plan.groups) (image_plain plan.lengths.items is.lengths)
     (All-append IsLine (search_lines plan.end plan.bounds plan.limits plan.tests) (groups_lines plan.groups) (search_plain plan is)
     (All-append IsLine (flat_map group_lines plan.groups) (codes "done" ∷ []) (groups_plain plan.groups (are_spelled plan.lengths.items plan.groups is.lengths is.groups)) (All-cons IsLine (codes "done") [] (an_entry_line Done tt) (All-nil IsLine)))))

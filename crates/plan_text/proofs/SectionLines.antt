@@ -1,9 +1,10 @@
 -- The lists of a plan, line by line.
-use Rattle.std.proofs.Common.{◌≡◌, ◌≢◌, ◌≤◌, ◌<◌, ◌^◌, ℕ, Bool, IsTrue, List, [], ◌∷◌, All, drop, length, map, codes, decimal, refl, sym, ap, arith, lit≤, lit<, Option, None, Some, MatchOption}
+use Rattle.std.proofs.Common.{◌≡◌, ◌≢◌, ◌≤◌, ◌<◌, ◌^◌, ℕ, Bool, true, false, IsTrue, List, [], ◌∷◌, ◌++◌, All, drop, length, map, codes, decimal, refl, sym, ap, ◌∙◌, arith, lit≤, lit<, Option, None, Some, MatchOption}
+use Rattle.std.proofs.lemmas.Bool.{false≢true}
 use Rattle.std.proofs.lemmas.List.Elements.{All-nil, All-cons}
 use Rattle.arrayvec.specs.declared.array_vec.ArrayVec.{ArrayVec}
 use Rattle.landmark_rules.specs.declared.limits.TheConstants.{MOST_ORIGINS}
-use Rattle.raid_params.specs.declared.limits.TheConstants.{MOST, MOST_CHUNKS, MOST_LESS_ONE, MOST_LEVELS, MOST_OFFSETS, MOST_PATTERNS, MOST_SYNDROMES}
+use Rattle.raid_params.specs.declared.limits.TheConstants.{LONGEST_DELAY, MOST, MOST_CHUNKS, MOST_DELAYS, MOST_LESS_ONE, MOST_LEVELS, MOST_OFFSETS, MOST_PATTERNS, MOST_SYNDROMES}
 use Rattle.raid_params.specs.declared.types.Level.{Level}
 use Rattle.raid_params.specs.declared.types.Pattern.{Pattern}
 use Rattle.raid_params.specs.declared.types.Pattern.TheVariants.{Plain}
@@ -14,10 +15,14 @@ use Rattle.search_plan.specs.Places.{level_place, pattern_place, syndrome_place}
 use Rattle.search_plan.specs.Plans.{AreRising}
 use Rattle.plan_text.specs.declared.parts.Arrays.{Arrays}
 use Rattle.plan_text.specs.declared.parts.Sizes.{Sizes}
-use Rattle.plan_text.specs.Parts.{AreArrays, AreBelow, AreSizes, lines_of_arrays, lines_of_sizes, sectors_end}
-use Rattle.value_text.specs.Bounded.{AreMembers, AreChunks}
+use Rattle.plan_text.specs.declared.parts.AfterPatterns.{AfterPatterns}
+use Rattle.plan_text.specs.declared.parts.AfterPatterns.TheVariants.{Delays as OfDelays, Syndromes as OfSyndromes}
+use Rattle.plan_text.specs.Parts.{AreArrays, AreBelow, AreSizes, MayComeAfter, line_after, lines_of_arrays, lines_of_sizes, sectors_end}
+use Rattle.plan_text.specs.PlanText.{delays_line, some_delays, syndromes_line}
+use Rattle.value_text.specs.Bounded.{AreMembers, AreChunks, AreDelays}
 use Rattle.value_text.specs.Spelling.{level_name, pattern_name, syndrome_name, commas, named}
 use Rattle.value_text.proofs.Fits.{levels_fit, patterns_fit, syndromes_fit}
+use Rattle.plan_text.proofs.DelayLines.{after_delays, orders_by}
 use Rattle.plan_text.proofs.Refusals.{StandsIn, one_line}
 use Rattle.plan_text.proofs.Versions.{some_sectors}
 
@@ -43,6 +48,9 @@ Members = ArrayVec ℕ MOST_LESS_ONE (Unit {0})
 abbrev Patterns : Type 0
 Patterns = ArrayVec Pattern MOST_PATTERNS (Unit {0})
 
+abbrev Delays : Type 0
+Delays = ArrayVec ℕ MOST_DELAYS (Unit {0})
+
 abbrev Syndromes : Type 0
 Syndromes = ArrayVec Syndrome MOST_SYNDROMES (Unit {0})
 
@@ -52,11 +60,12 @@ Chunks = ArrayVec ℕ MOST_CHUNKS (Unit {0})
 abbrev Sectors : Type 0
 Sectors = ArrayVec ℕ MOST_OFFSETS (Unit {0})
 
-abbrev arrays_with : Levels → Members → Patterns → Syndromes → Arrays
-arrays_with l m p s = record { levels = l; members = m; patterns = p; syndromes = s }
+abbrev arrays_with : Levels → Members → Patterns → Delays → Syndromes → Arrays
+arrays_with l m p d s = record { levels = l; members = m; patterns = p; delays = d; syndromes = s }
 
-pub are_arrays : (l : Levels) (m : Members) (p : Patterns) (s : Syndromes) → AreRising (map level_place l.items) → AreMembers m.items → AreRising (map pattern_place p.items) → AreRising (map syndrome_place s.items) → AreArrays (arrays_with l m p s)
-are_arrays l m p s a b c d = record { levels = a; members = b; patterns = c; syndromes = d }
+pub are_arrays : (third : Bool) (l : Levels) (m : Members) (p : Patterns) (d : Delays) (s : Syndromes) → AreRising (map level_place l.items) → AreMembers m.items → AreRising (map pattern_place p.items) → AreDelays d.items → (third ≡ false → some_delays d.items ≡ false) → AreRising (map syndrome_place s.items) →
+    AreArrays third (arrays_with l m p d s)
+are_arrays third l m p d s a b c e f g = record { levels = a; members = b; patterns = c; delays = e; once = f; syndromes = g }
 
 members : Members
 members = record { items = 2 ∷ [] }
@@ -67,45 +76,113 @@ are_members = (one_rises 2, of_one (λ n. (2 ≤ n) × (n ≤ MOST)) 2 (lit≤ t
 patterns : Patterns
 patterns = record { items = Plain ∷ [] }
 
+delays : Delays
+delays = record { items = 1 ∷ [] }
+
+pub is_one_delay : AreDelays (1 ∷ [])
+is_one_delay = (one_rises 1, lit≤ tt, of_one (λ n. (1 ≤ n) × (n ≤ LONGEST_DELAY)) 1 (lit≤ tt, lit≤ tt))
+
 syndromes : Syndromes
 syndromes = record { items = NoQ ∷ [] }
 
 abbrev AreListed : {A : Type 0} (most : ℕ) (place : A → ℕ) → List A → Type 0
 AreListed most place xs = AreRising (map place xs) × (length xs ≤ most) × All (λ x. Unit {0}) xs
 
-pub stands_levels : StandsIn {X = Levels} (λ xs. AreListed MOST_LEVELS level_place xs.items) (λ xs. named (codes "levels") (commas (map level_name xs.items)) ∷ []) AreArrays lines_of_arrays []
-unfolding members patterns syndromes
-stands_levels = record {
-  made = λ x p. (arrays_with x members patterns syndromes, _, are_arrays x members patterns syndromes p.0 are_members (one_rises 0) (one_rises 0), refl);
+pub stands_levels : (third : Bool) → StandsIn {X = Levels} (λ xs. AreListed MOST_LEVELS level_place xs.items) (λ xs. named (codes "levels") (commas (map level_name xs.items)) ∷ []) (AreArrays third) lines_of_arrays []
+unfolding members patterns delays syndromes
+stands_levels third = record {
+  made = λ x p. (arrays_with x members patterns delays syndromes, _, are_arrays third x members patterns delays syndromes p.0 are_members (one_rises 0) is_one_delay (λ e. refl) (one_rises 0), refl);
   shape = λ w tail is e. (w.levels, _, (is.levels, levels_fit w.levels.items is.levels, λ k d lt. tt), sym e);
   apart = λ x y m more p q e. one_line (λ (xs : Levels). named (codes "levels") (commas (map level_name xs.items))) x y m more e;
 }
 
-pub stands_members : (l : Levels) → AreRising (map level_place l.items) →
-    StandsIn {X = Members} (λ xs. AreMembers xs.items) (λ xs. named (codes "members") (commas (map decimal xs.items)) ∷ []) AreArrays lines_of_arrays (named (codes "levels") (commas (map level_name l.items)) ∷ [])
-unfolding patterns syndromes
-stands_members l pl = record {
-  made = λ x p. (arrays_with l x patterns syndromes, _, are_arrays l x patterns syndromes pl p (one_rises 0) (one_rises 0), refl);
+pub stands_members : (third : Bool) (l : Levels) → AreRising (map level_place l.items) →
+    StandsIn {X = Members} (λ xs. AreMembers xs.items) (λ xs. named (codes "members") (commas (map decimal xs.items)) ∷ []) (AreArrays third) lines_of_arrays (named (codes "levels") (commas (map level_name l.items)) ∷ [])
+unfolding patterns delays syndromes
+stands_members third l pl = record {
+  made = λ x p. (arrays_with l x patterns delays syndromes, _, are_arrays third l x patterns delays syndromes pl p (one_rises 0) is_one_delay (λ e. refl) (one_rises 0), refl);
   shape = λ w tail is e. (w.members, _, is.members, ap (λ (ls : List (List ℕ)). drop 1 ls) (sym e));
   apart = λ x y m more p q e. one_line (λ (xs : Members). named (codes "members") (commas (map decimal xs.items))) x y m more e;
 }
 
-pub stands_patterns : (l : Levels) (n : Members) → AreRising (map level_place l.items) → AreMembers n.items →
-    StandsIn {X = Patterns} (λ xs. AreListed MOST_PATTERNS pattern_place xs.items) (λ xs. named (codes "patterns") (commas (map pattern_name xs.items)) ∷ []) AreArrays lines_of_arrays
+pub stands_patterns : (third : Bool) (l : Levels) (n : Members) → AreRising (map level_place l.items) → AreMembers n.items →
+    StandsIn {X = Patterns} (λ xs. AreListed MOST_PATTERNS pattern_place xs.items) (λ xs. named (codes "patterns") (commas (map pattern_name xs.items)) ∷ []) (AreArrays third) lines_of_arrays
     (named (codes "levels") (commas (map level_name l.items)) ∷ named (codes "members") (commas (map decimal n.items)) ∷ [])
-unfolding syndromes
-stands_patterns l n pl pn = record {
-  made = λ x p. (arrays_with l n x syndromes, _, are_arrays l n x syndromes pl pn p.0 (one_rises 0), refl);
+unfolding delays syndromes
+stands_patterns third l n pl pn = record {
+  made = λ x p. (arrays_with l n x delays syndromes, _, are_arrays third l n x delays syndromes pl pn p.0 is_one_delay (λ e. refl) (one_rises 0), refl);
   shape = λ w tail is e. (w.patterns, _, (is.patterns, patterns_fit w.patterns.items is.patterns, λ k d lt. tt), ap (λ (ls : List (List ℕ)). drop 2 ls) (sym e));
   apart = λ x y m more p q e. one_line (λ (xs : Patterns). named (codes "patterns") (commas (map pattern_name xs.items))) x y m more e;
 }
 
-pub stands_syndromes : (l : Levels) (n : Members) (o : Patterns) → AreRising (map level_place l.items) → AreMembers n.items → AreRising (map pattern_place o.items) →
-    StandsIn {X = Syndromes} (λ xs. AreListed MOST_SYNDROMES syndrome_place xs.items) (λ xs. named (codes "syndromes") (commas (map syndrome_name xs.items)) ∷ []) AreArrays lines_of_arrays
-    (named (codes "levels") (commas (map level_name l.items)) ∷ named (codes "members") (commas (map decimal n.items)) ∷ named (codes "patterns") (commas (map pattern_name o.items)) ∷ [])
-stands_syndromes l n o pl pn po = record {
-  made = λ x p. (arrays_with l n o x, _, are_arrays l n o x pl pn po p.0, refl);
-  shape = λ w tail is e. (w.syndromes, _, (is.syndromes, syndromes_fit w.syndromes.items is.syndromes, λ k d lt. tt), ap (λ (ls : List (List ℕ)). drop 3 ls) (sym e));
+-- the lines before that after the patterns
+abbrev first_lines : Levels → Members → Patterns → List (List ℕ)
+first_lines l n o = named (codes "levels") (commas (map level_name l.items)) ∷ named (codes "members") (commas (map decimal n.items)) ∷ named (codes "patterns") (commas (map pattern_name o.items)) ∷ []
+
+-- the lines of arrays with other delays than one, and with one alone
+pub delayed_lines : (l : Levels) (n : Members) (o : Patterns) (d : Delays) (s : Syndromes) → some_delays d.items ≡ true → first_lines l n o ++ delays_line d.items ∷ syndromes_line s.items ∷ [] ≡ lines_of_arrays (arrays_with l n o d s)
+delayed_lines l n o d s some = sym (ap (λ (b : Bool). first_lines l n o ++ orders_by b d.items s.items) some)
+
+pub single_lines : (l : Levels) (n : Members) (o : Patterns) (d : Delays) (s : Syndromes) → some_delays d.items ≡ false → first_lines l n o ++ syndromes_line s.items ∷ [] ≡ lines_of_arrays (arrays_with l n o d s)
+single_lines l n o d s none = sym (ap (λ (b : Bool). first_lines l n o ++ orders_by b d.items s.items) none)
+
+-- nothing is asked of an earlier version in version 3
+pub other_version : {P : Type 0} {third : Bool} → third ≡ true → third ≡ false → P
+other_version some none = absurd (false≢true (sym none ∙ some))
+
+-- arrays with other delays than one are those of a plan of version 3
+third_of : (third : Bool) (w : Arrays) → AreArrays third w → some_delays w.delays.items ≡ true → third ≡ true
+third_of true w is some = refl
+third_of false w is some = sym (is.once refl) ∙ some
+
+pub stands_after : (third : Bool) (l : Levels) (n : Members) (o : Patterns) → AreRising (map level_place l.items) → AreMembers n.items → AreRising (map pattern_place o.items) →
+    StandsIn (MayComeAfter third) (λ what. line_after what ∷ []) (AreArrays third) lines_of_arrays (first_lines l n o)
+unfolding delays syndromes
+stands_after third l n o pl pn po = record {
+  made = wholes;
+  shape = λ w tail is e. parts w tail is (some_delays w.delays.items) refl (ap (λ (ls : List (List ℕ)). drop 3 ls) (sym e));
+  apart = λ x y m more p q e. one_line line_after x y m more e;
+}
+  where
+    wholes : (x : AfterPatterns) → MayComeAfter third x → (w : Arrays) × (r : List (List ℕ)) × AreArrays third w × (lines_of_arrays w ≡ first_lines l n o ++ ((line_after x ∷ []) ++ r))
+    wholes (OfDelays ds) p = (
+      arrays_with l n o ds syndromes,
+      syndromes_line syndromes.items ∷ [],
+      are_arrays third l n o ds syndromes pl pn po p.1 (other_version p.0) (one_rises 0),
+      sym (delayed_lines l n o ds syndromes p.2),
+    )
+    wholes (OfSyndromes ss) p = (arrays_with l n o delays ss, [], are_arrays third l n o delays ss pl pn po is_one_delay (λ e. refl) p.0, refl)
+
+    parts : (w : Arrays) (tail : List (List ℕ)) → AreArrays third w → (b : Bool) → some_delays w.delays.items ≡ b → tail ≡ orders_by (some_delays w.delays.items) w.delays.items w.syndromes.items →
+        (x : AfterPatterns) × (r : List (List ℕ)) × MayComeAfter third x × (tail ≡ (line_after x ∷ []) ++ r)
+    parts w tail is true some e = (
+      OfDelays w.delays,
+      syndromes_line w.syndromes.items ∷ [],
+      (third_of third w is some, is.delays, some),
+      e ∙ ap (λ (b : Bool). orders_by b w.delays.items w.syndromes.items) some,
+    )
+    parts w tail is false none e = (
+      OfSyndromes w.syndromes,
+      [],
+      (is.syndromes, syndromes_fit w.syndromes.items is.syndromes, λ k d lt. tt),
+      e ∙ ap (λ (b : Bool). orders_by b w.delays.items w.syndromes.items) none,
+    )
+
+pub stands_syndromes : (third : Bool) (l : Levels) (n : Members) (o : Patterns) (d : Delays) → AreRising (map level_place l.items) → AreMembers n.items → AreRising (map pattern_place o.items) → MayComeAfter third (OfDelays d) →
+    StandsIn {X = Syndromes} (λ xs. AreListed MOST_SYNDROMES syndrome_place xs.items) (λ xs. named (codes "syndromes") (commas (map syndrome_name xs.items)) ∷ []) (AreArrays third) lines_of_arrays (first_lines l n o ++ delays_line d.items ∷ [])
+stands_syndromes third l n o d pl pn po pd = record {
+  made = λ x p. (
+    arrays_with l n o d x,
+    [],
+    are_arrays third l n o d x pl pn po pd.1 (other_version pd.0) p.0,
+    sym (delayed_lines l n o d x pd.2),
+  );
+  shape = λ w tail is e. (
+    w.syndromes,
+    [],
+    (is.syndromes, syndromes_fit w.syndromes.items is.syndromes, λ k d lt. tt),
+    (after_delays (some_delays w.delays.items) w.delays.items d.items w.syndromes.items tail (ap (λ (ls : List (List ℕ)). drop 3 ls) e)).1,
+  );
   apart = λ x y m more p q e. one_line (λ (xs : Syndromes). named (codes "syndromes") (commas (map syndrome_name xs.items))) x y m more e;
 }
 

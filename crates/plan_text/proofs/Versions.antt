@@ -47,15 +47,15 @@ abbrev pub number_line : ℕ → List ℕ
 number_line n = named (codes "reraid-plan") (decimal n)
 
 abbrev pub lines_of_version : Version → List (List ℕ)
-lines_of_version version = version_lines version.each version.own
+lines_of_version version = version_lines version.each version.third
 
 abbrev pub version_with : Bool → Bool → Version
-version_with each own = record { each = each; own = own }
+version_with each third = record { each = each; third = third }
 
 same_number : (m n : ℕ) → m < 2 ^ 64 → n < 2 ^ 64 → number_line m ≡ number_line n → m ≡ n
 same_number m n p q e = decimal_injective m n p q (append_cancel_left (codes "reraid-plan ") (decimal m) (decimal n) e)
 
-pub small_number : (each own : Bool) → (1 ≤ version_number each own) × (version_number each own ≤ 3)
+pub small_number : (each third : Bool) → (1 ≤ version_number each third) × (version_number each third ≤ 3)
 small_number false false = (omega arith, omega arith)
 small_number true false = (omega arith, omega arith)
 small_number each true = (omega arith, omega arith)
@@ -92,7 +92,7 @@ same_version a true b false x y e = absurd (no_older b (sym (first_number a true
 same_version a true b true x y e = (same_mode a b (ap (λ (ls : List (List ℕ)). get_or ls 1 []) e), refl, ap (λ (ls : List (List ℕ)). drop 2 ls) e)
 
 abbrev HasNumber : ℕ → Version → Type 0
-HasNumber n version = version_number version.each version.own ≡ n
+HasNumber n version = version_number version.each version.third ≡ n
 
 version_of : (n : ℕ) → 1 ≤ n → n ≤ 3 → (version : Version) × HasNumber n version
 version_of n some few = elim (cases_lt n 2) [
@@ -103,8 +103,8 @@ version_of n some few = elim (cases_lt n 2) [
 -- the number of a version is that of a version
 pub stands_number : StandsIn (λ n. (1 ≤ n) × (n ≤ 3)) (λ n. number_line n ∷ []) (λ (version : Version). Unit {0}) lines_of_version []
 stands_number = record {
-  made = λ n p. let version = version_of n p.0 p.1 in (version.0, mode_lines version.0.each version.0.own, tt, ap (λ (k : ℕ). number_line k ∷ mode_lines version.0.each version.0.own) version.1);
-  shape = λ version tail is e. (version_number version.each version.own, mode_lines version.each version.own, small_number version.each version.own, sym e);
+  made = λ n p. let version = version_of n p.0 p.1 in (version.0, mode_lines version.0.each version.0.third, tt, ap (λ (k : ℕ). number_line k ∷ mode_lines version.0.each version.0.third) version.1);
+  shape = λ version tail is e. (version_number version.each version.third, mode_lines version.each version.third, small_number version.each version.third, sym e);
   apart = λ x y m more p q e. one_line number_line x y m more e;
 }
 
@@ -112,11 +112,11 @@ stands_number = record {
 pub stands_mode : StandsIn (λ (each : Bool). Unit {0}) (λ each. mode_line each ∷ []) (λ (version : Version). Unit {0}) lines_of_version (number_line 3 ∷ [])
 stands_mode = record {
   made = λ each p. (version_with each true, [], tt, refl);
-  shape = λ version tail is e. shaped version.each version.own tail e;
+  shape = λ version tail is e. shaped version.each version.third tail e;
   apart = λ x y m more p q e. one_line mode_line x y m more e;
 }
   where
-    shaped : (each own : Bool) (tail : List (List ℕ)) → version_lines each own ≡ number_line 3 ∷ tail → (x : Bool) × (r : List (List ℕ)) × Unit {0} × (tail ≡ (mode_line x ∷ []) ++ r)
+    shaped : (each third : Bool) (tail : List (List ℕ)) → version_lines each third ≡ number_line 3 ∷ tail → (x : Bool) × (r : List (List ℕ)) × Unit {0} × (tail ≡ (mode_line x ∷ []) ++ r)
     shaped each true tail e = (each, [], tt, sym (ap (λ (ls : List (List ℕ)). drop 1 ls) e))
     shaped each false tail e =
         let first : number_line (older_number each) ≡ number_line 3 = ap (λ (ls : List (List ℕ)). get_or ls 0 []) e in

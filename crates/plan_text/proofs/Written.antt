@@ -21,11 +21,11 @@ one_and_three t0 t1 t2 t3 t4 a xs ys zs p q r s =
     ∙ ap (λ (ls : List (List ℕ)). t0 ++ flat_map line (a ∷ ls)) (append_assoc xs ys zs)
 
 -- the lines of the version, with the mode and without
-pub with_mode : (t0 t1 t2 : List ℕ) (each own : Bool) → own ≡ true → t1 ≡ t0 ++ line (named (codes "reraid-plan") (decimal (version_number each own))) → t2 ≡ t1 ++ line (mode_line each) → t2 ≡ t0 ++ flat_map line (version_lines each own)
+pub with_mode : (t0 t1 t2 : List ℕ) (each third : Bool) → third ≡ true → t1 ≡ t0 ++ line (named (codes "reraid-plan") (decimal (version_number each third))) → t2 ≡ t1 ++ line (mode_line each) → t2 ≡ t0 ++ flat_map line (version_lines each third)
 with_mode t0 t1 t2 each true is p q = one_and_more t0 t1 t2 (named (codes "reraid-plan") (decimal 3)) (mode_line each ∷ []) p (one_line t2 t1 (mode_line each) q)
 with_mode t0 t1 t2 each false is p q = absurd (let no : ⊥ = cc in no)
 
-pub without_mode : (t0 t1 : List ℕ) (each own : Bool) → own ≡ false → t1 ≡ t0 ++ line (named (codes "reraid-plan") (decimal (version_number each own))) → t1 ≡ t0 ++ flat_map line (version_lines each own)
+pub without_mode : (t0 t1 : List ℕ) (each third : Bool) → third ≡ false → t1 ≡ t0 ++ line (named (codes "reraid-plan") (decimal (version_number each third))) → t1 ≡ t0 ++ flat_map line (version_lines each third)
 without_mode t0 t1 each false is p = one_line t1 t0 (named (codes "reraid-plan") (decimal (version_number each false))) p
 without_mode t0 t1 each true is p = absurd (let no : ⊥ = cc in no)
 
@@ -35,3 +35,8 @@ whole t0 t1 t2 t3 t4 ws xs ys zs none p q r s =
     more_lines t4 t3 t0 ((ws ++ xs) ++ ys) zs (more_lines t3 t2 t0 (ws ++ xs) ys (more_lines t2 t1 t0 ws xs p q) r) s
     ∙ ap (λ (ds : List ℕ). ds ++ flat_map line (((ws ++ xs) ++ ys) ++ zs)) none
     ∙ ap (λ (ls : List (List ℕ)). flat_map line ls) (append_assoc (ws ++ xs) ys zs ∙ append_assoc ws xs (ys ++ zs))
+
+-- three lines, then some, then one
+pub three_some_and_one : (t0 t1 t2 t3 t4 t5 : List ℕ) (a b c d : List ℕ) (xs : List (List ℕ)) → t1 ≡ t0 ++ line a → t2 ≡ t1 ++ line b → t3 ≡ t2 ++ line c → t4 ≡ t3 ++ flat_map line xs → t5 ≡ t4 ++ line d → t5 ≡ t0 ++ flat_map line (a ∷ b ∷ c ∷ (xs ++ d ∷ []))
+three_some_and_one t0 t1 t2 t3 t4 t5 a b c d xs p q r s t =
+    one_and_more t0 t1 t5 a (b ∷ c ∷ (xs ++ d ∷ [])) p (one_and_more t1 t2 t5 b (c ∷ (xs ++ d ∷ [])) q (one_and_more t2 t3 t5 c (xs ++ d ∷ []) r (more_lines t5 t4 t3 xs (d ∷ []) s (one_line t5 t4 d t))))

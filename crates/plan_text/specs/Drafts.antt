@@ -13,13 +13,13 @@ use Rattle.mark_kinds.specs.declared.sectors.TheConstants.{KIND_COUNT}
 use Rattle.plan_text.specs.declared.draft.Draft.{Draft}
 use Rattle.plan_text.specs.declared.entry.Entry.{Entry}
 use Rattle.plan_text.specs.declared.entry.Entry.TheVariants.{Bounds as BoundsEntry, Done, Group as GroupEntry, Mark as MarkEntry}
-use Rattle.plan_text.specs.PlanText.{bounds_line, mark_line, some_bounds}
+use Rattle.plan_text.specs.PlanText.{bounds_line, mark_line, says_more}
 use Rattle.value_text.specs.Spelling.{named}
 use Rattle.landmark_text.specs.Names.{group_name}
 
--- groups of a plan over images of these lengths, of which some have bounds of their own or none has
-abbrev pub AreGroupsWith : Bool → List ℕ → List Group → Type 0
-AreGroupsWith own lengths groups = AreGroups lengths groups × (some_bounds groups ≡ own)
+-- groups over images of these lengths, of a plan of version 3 or of an earlier one, which has other delays than one or not
+abbrev pub AreGroupsWith : Bool → Bool → List ℕ → List Group → Type 0
+AreGroupsWith third delayed lengths groups = AreGroups lengths groups × (says_more delayed groups ≡ third)
 
 -- a group of no marks
 abbrev pub empty_group : GroupKind → Group
@@ -97,13 +97,13 @@ MayBound draft = MatchOption draft.last ⊥ IsFresh
 abbrev pub MayGoOn : Draft → Type 0
 MayGoOn draft = (kind : GroupKind) × MayBegin draft kind
 
--- where some group has to have bounds of its own, one has, or one may still begin
-abbrev pub MayEnd : Bool → Draft → Type 0
-MayEnd own draft = own ≡ true → (some_bounds (drafted draft) ≡ true) ⊎ MayGoOn draft
+-- where version 3 has more to say than was read, a group may still begin
+abbrev pub MayEnd : Bool → Bool → Draft → Type 0
+MayEnd third delayed draft = third ≡ true → (says_more delayed (drafted draft) ≡ true) ⊎ MayGoOn draft
 
--- an entry may follow the groups of a draft, where some group has to have bounds of its own or none may
-abbrev pub MayFollow : Bool → List ℕ → Draft → Entry → Type 0
-MayFollow own lengths draft Done = some_bounds (drafted draft) ≡ own
-MayFollow own lengths draft (GroupEntry kind) = MayBegin draft kind
-MayFollow own lengths draft (BoundsEntry bounds) = (own ≡ true) × MayBound draft
-MayFollow own lengths draft (MarkEntry mark) = MayAdd lengths draft mark × MayEnd own draft
+-- an entry may follow the groups of a draft: bounds stand in version 3 alone, and it ends where it has said more
+abbrev pub MayFollow : Bool → Bool → List ℕ → Draft → Entry → Type 0
+MayFollow third delayed lengths draft Done = says_more delayed (drafted draft) ≡ third
+MayFollow third delayed lengths draft (GroupEntry kind) = MayBegin draft kind
+MayFollow third delayed lengths draft (BoundsEntry bounds) = (third ≡ true) × MayBound draft
+MayFollow third delayed lengths draft (MarkEntry mark) = MayAdd lengths draft mark × MayEnd third delayed draft

@@ -1,20 +1,34 @@
 -- Parts of a plan that stand on lines one after the other.
-use Rattle.std.specs.Prelude.{ℕ, Bool, true, false, ◌≤◌, ◌<◌, ◌^◌, List, [], ◌∷◌, map, All, codes, decimal}
-use Rattle.raid_params.specs.declared.limits.TheConstants.{MOST}
+use Rattle.std.specs.Prelude.{ℕ, Bool, true, false, ◌≡◌, ◌≤◌, ◌<◌, ◌^◌, List, [], ◌∷◌, ◌++◌, length, map, All, codes, decimal}
+use Rattle.raid_params.specs.declared.limits.TheConstants.{MOST, MOST_SYNDROMES}
 use Rattle.search_plan.specs.Places.{level_place, pattern_place, syndrome_place}
 use Rattle.search_plan.specs.Plans.{AreRising, AreBounds, AreLengths, AreLimits, AreTests}
-pub use Rattle.value_text.specs.Bounded.{AreChunks, AreMembers, AreSectors}
+pub use Rattle.value_text.specs.Bounded.{AreChunks, AreDelays, AreMembers, AreSectors}
+use Rattle.plan_text.specs.declared.parts.AfterPatterns.{AfterPatterns}
+use Rattle.plan_text.specs.declared.parts.AfterPatterns.TheVariants.{Delays, Syndromes}
 use Rattle.plan_text.specs.declared.parts.Counts.{Counts}
 use Rattle.plan_text.specs.declared.parts.Arrays.{Arrays}
 use Rattle.plan_text.specs.declared.parts.Search.{Search}
 use Rattle.plan_text.specs.declared.parts.Sizes.{Sizes}
-use Rattle.plan_text.specs.PlanText.{search_lines}
-use Rattle.value_text.specs.Spelling.{level_name, pattern_name, syndrome_name, commas, named}
+use Rattle.plan_text.specs.PlanText.{delays_line, delays_lines, search_lines, some_delays, syndromes_line}
+use Rattle.value_text.specs.Spelling.{level_name, pattern_name, commas, named}
 
-pub record AreArrays (arrays : Arrays) : Type 0 where
+-- what may stand on the line after the patterns: other delays than one, in version 3 alone, or orders of Q
+abbrev pub MayComeAfter : Bool → AfterPatterns → Type 0
+MayComeAfter third (Delays delays) = (third ≡ true) × AreDelays delays.items × (some_delays delays.items ≡ true)
+MayComeAfter third (Syndromes syndromes) = AreRising (map syndrome_place syndromes.items) × (length syndromes.items ≤ MOST_SYNDROMES) × All (λ syndrome. Unit {0}) syndromes.items
+
+abbrev pub line_after : AfterPatterns → List ℕ
+line_after (Delays delays) = delays_line delays.items
+line_after (Syndromes syndromes) = syndromes_line syndromes.items
+
+-- the arrays of a plan of version 3, or of an earlier one: there parity stays for one row
+pub record AreArrays (third : Bool) (arrays : Arrays) : Type 0 where
   pub levels : AreRising (map level_place arrays.levels.items)
   pub members : AreMembers arrays.members.items
   pub patterns : AreRising (map pattern_place arrays.patterns.items)
+  pub delays : AreDelays arrays.delays.items
+  pub once : third ≡ false → some_delays arrays.delays.items ≡ false
   pub syndromes : AreRising (map syndrome_place arrays.syndromes.items)
 
 abbrev pub lines_of_arrays : Arrays → List (List ℕ)
@@ -22,8 +36,7 @@ lines_of_arrays arrays =
     named (codes "levels") (commas (map level_name arrays.levels.items))
     ∷ named (codes "members") (commas (map decimal arrays.members.items))
     ∷ named (codes "patterns") (commas (map pattern_name arrays.patterns.items))
-    ∷ named (codes "syndromes") (commas (map syndrome_name arrays.syndromes.items))
-    ∷ []
+    ∷ (delays_lines (some_delays arrays.delays.items) arrays.delays.items ++ syndromes_line arrays.syndromes.items ∷ [])
 
 -- the end of lengths and offsets, and the most foreign images: images with offsets of their own are moved by them
 abbrev pub sectors_end : Bool → ℕ
@@ -72,12 +85,13 @@ lines_of_counts counts =
     ∷ named (codes "least") (decimal counts.least)
     ∷ []
 
--- a search in images, of which the shortest has this many sectors
-pub record IsSearch (shortest : ℕ) (each : Bool) (search : Search) : Type 0 where
+-- a search in images, of which the shortest has this many sectors, of a plan of version 3 or of an earlier one
+pub record IsSearch (shortest : ℕ) (each third : Bool) (search : Search) : Type 0 where
   pub ends : search.end ≤ shortest
   pub bounds : AreBounds search.bounds
   pub limits : AreLimits search.limits
   pub tests : AreTests search.tests
+  pub once : third ≡ false → some_delays search.bounds.delays.items ≡ false
   pub foreign : search.bounds.foreign ≤ most_foreign each
   pub near : All (λ n. n < sectors_end each) search.bounds.offsets.items
 

@@ -1,10 +1,11 @@
 -- The one text of a plan, and the line at which a text that is no plan's is refused.
-use Rattle.std.specs.Prelude.{ℕ, Bool, true, false, ◌≡◌, ◌≢◌, ◌+◌, List, [], ◌∷◌, ◌++◌, length, map, All, codes, decimal, Result, IfOk, IfErr}
+use Rattle.std.specs.Prelude.{ℕ, Bool, true, false, not, ◌==◌, ◌||◌, ◌≡◌, ◌≢◌, ◌+◌, List, [], ◌∷◌, ◌++◌, length, map, All, codes, decimal, Result, IfOk, IfErr}
 use Rattle.std.specs.List.{flat_map, list_any}
 use Rattle.std.specs.Option.{is_some}
 use Rattle.std.specs.declared.option.Option.{Option}
 use Rattle.std.specs.declared.option.Option.TheVariants.{None, Some}
 use Rattle.raid_params.specs.declared.types.Bounds.{Bounds}
+use Rattle.raid_params.specs.declared.types.Syndrome.{Syndrome}
 use Rattle.landmark_rules.specs.declared.marks.Group.{Group}
 use Rattle.landmark_rules.specs.declared.marks.Mark.{Mark}
 use Rattle.landmark_rules.specs.declared.marks.MarkBounds.{MarkBounds}
@@ -23,12 +24,22 @@ use Rattle.landmark_text.specs.Names.{group_name, kind_name}
 abbrev pub some_bounds : List Group → Bool
 some_bounds groups = list_any (λ group. is_some group.bounds) groups
 
+-- parity may stay for other numbers of rows than one
+abbrev pub some_delays : List ℕ → Bool
+some_delays [] = true
+some_delays (delay ∷ []) = not (delay == 1)
+some_delays (delay ∷ other ∷ delays) = true
+
+-- what versions 1 and 2 cannot say: other delays than one, or a group with bounds of its own
+abbrev pub says_more : Bool → List Group → Bool
+says_more delayed groups = delayed || some_bounds groups
+
 -- the version of the text: 2 where each image has an offset of its own, and 1 where all share one
 abbrev pub older_number : Bool → ℕ
 older_number false = 1
 older_number true = 2
 
--- but 3 where a group has bounds of its own
+-- but 3 where there is more to say
 abbrev pub version_number : Bool → Bool → ℕ
 version_number each true = 3
 version_number each false = older_number each
@@ -46,7 +57,7 @@ mode_lines each true = mode_line each ∷ []
 mode_lines each false = []
 
 abbrev pub version_lines : Bool → Bool → List (List ℕ)
-version_lines each own = named (codes "reraid-plan") (decimal (version_number each own)) ∷ mode_lines each own
+version_lines each third = named (codes "reraid-plan") (decimal (version_number each third)) ∷ mode_lines each third
 
 -- the number of images, and the length of each
 abbrev pub image_lines : List ℕ → List (List ℕ)
@@ -54,14 +65,24 @@ image_lines lengths =
     named (codes "images") (decimal (length lengths))
     ∷ map (λ n. named (codes "length") (decimal n)) lengths
 
+-- other delays than one stand on a line of their own
+abbrev pub delays_line : List ℕ → List ℕ
+delays_line delays = named (codes "delays") (commas (map decimal delays))
+
+abbrev pub delays_lines : Bool → List ℕ → List (List ℕ)
+delays_lines true delays = delays_line delays ∷ []
+delays_lines false delays = []
+
+abbrev pub syndromes_line : List Syndrome → List ℕ
+syndromes_line syndromes = named (codes "syndromes") (commas (map syndrome_name syndromes))
+
 -- the arrays to try
 abbrev pub arrays_lines : Bounds → List (List ℕ)
 arrays_lines bounds =
     named (codes "levels") (commas (map level_name bounds.levels.items))
     ∷ named (codes "members") (commas (map decimal bounds.members.items))
     ∷ named (codes "patterns") (commas (map pattern_name bounds.patterns.items))
-    ∷ named (codes "syndromes") (commas (map syndrome_name bounds.syndromes.items))
-    ∷ []
+    ∷ (delays_lines (some_delays bounds.delays.items) bounds.delays.items ++ syndromes_line bounds.syndromes.items ∷ [])
 
 -- their chunks, and where data and file systems may begin
 abbrev pub sizes_lines : Bounds → MarkTests → List (List ℕ)
@@ -122,7 +143,7 @@ groups_lines groups = flat_map group_lines groups ++ codes "done" ∷ []
 -- the lines of a plan
 abbrev pub plan_lines : Plan → List (List ℕ)
 plan_lines plan =
-    version_lines plan.each (some_bounds plan.groups) ++ (image_lines plan.lengths.items ++ (search_lines plan.end plan.bounds plan.limits plan.tests ++ groups_lines plan.groups))
+    version_lines plan.each (says_more (some_delays plan.bounds.delays.items) plan.groups) ++ (image_lines plan.lengths.items ++ (search_lines plan.end plan.bounds plan.limits plan.tests ++ groups_lines plan.groups))
 
 -- the text of a plan: its lines, each ended by a line feed
 abbrev pub plan_text : Plan → List ℕ

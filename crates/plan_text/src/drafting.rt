@@ -29,8 +29,10 @@ pub fn no_groups(alloc: Global) -> Draft
 /// Which groups of a plan have bounds of their own.
 #[derive(Clone, Copy)]
 pub struct Bounding {
-    /// Whether some group has to have them; otherwise none may.
-    pub own: bool,
+    /// Whether the plan is of version 3; otherwise none may have them.
+    pub third: bool,
+    /// Whether the plan has other delays than one; otherwise some group of version 3 has to have them.
+    pub delayed: bool,
     /// Whether one of those that were read has.
     pub some: bool,
 }
@@ -41,12 +43,12 @@ pub fn may_follow(draft: &Draft, bounding: Bounding, lengths: &[u64], entry: &En
     requires draft { IsDraft draft.now }
     requires some { bounding.some ≡ some_bounds (drafted draft.now) }
     requires entry { IsEntry entry.now }
-    ensures { IsTrue result ↔ MayFollow bounding.own lengths.now draft.now entry.now }
+    ensures { IsTrue result ↔ MayFollow bounding.third bounding.delayed lengths.now draft.now entry.now }
 {
     match entry {
-        Entry::Done => bounding.some == bounding.own,
+        Entry::Done => (bounding.delayed || bounding.some) == bounding.third,
         Entry::Group(kind) => may_begin(draft, *kind),
-        Entry::Bounds(_) => bounding.own && may_bound(&draft.last),
+        Entry::Bounds(_) => bounding.third && may_bound(&draft.last),
         Entry::Mark(mark) => may_add(draft, lengths, mark) && may_end(draft, bounding),
     }
 }
@@ -56,9 +58,9 @@ pub fn may_follow(draft: &Draft, bounding: Bounding, lengths: &[u64], entry: &En
 fn may_end(draft: &Draft, bounding: Bounding) -> bool
     requires draft { IsDraft draft.now }
     requires some { bounding.some ≡ some_bounds (drafted draft.now) }
-    ensures { IsTrue result ↔ MayEnd bounding.own draft.now }
+    ensures { IsTrue result ↔ MayEnd bounding.third bounding.delayed draft.now }
 {
-    if bounding.own && !bounding.some {
+    if bounding.third && !bounding.delayed && !bounding.some {
         may_go_on(draft)
     } else {
         true

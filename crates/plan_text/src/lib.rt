@@ -3,8 +3,9 @@
 //! A plan has one text, and a text is read as a plan exactly where it is that plan's text to its
 //! last byte: a list of lines, each ended by a line feed, with decimal numbers without sign or
 //! leading zero. Any other text is refused at one of its lines. Where each image has an offset of its own, lengths and offsets
-//! are below 2^54, and no image is foreign. Version 3 of the text is that of plans in which a group has bounds of its own, and
-//! says on a line whether each image has an offset of its own; of all others version 2 is that of plans in which each has.
+//! are below 2^54, and no image is foreign. Version 3 of the text is that of plans with other delays than one, or in which a
+//! group has bounds of its own, and says on a line whether each image has an offset of its own; of all others version 2 is that of
+//! plans in which each has.
 //!
 //! [`read_plan`] goes through the text once, a line at a time, and [`write_plan`] is its other direction. What the
 //! lines are made of, numbers, names, lists and the words of parameter sets, is `value_text`'s matter, and the lines of
@@ -39,7 +40,8 @@ pub use plan::read_plan;
 pub use search_plan::{Limits, Placed, Plan};
 pub use value_text::{
     Field, LEVELS, Listed, PATTERNS, SYNDROMES, Spelled, Text, add_number, after, common_set_line,
-    cut, pattern_name, read_chunks, read_common_set, read_members, read_number, read_sectors,
-    read_set, rising, set_line, set_words_have_one_spelling, syndrome_name, write_set,
+    cut, pattern_name, read_chunks, read_common_set, read_delays, read_members, read_number,
+    read_sectors, read_set, rising, set_line, set_words_have_one_spelling, syndrome_name,
+    write_set,
 };
 pub use writer::write_plan;

@@ -1,14 +1,18 @@
 //! The value that a line spells after its name.
-ghost use Rattle.std.specs.Prelude.{◌≡◌, ◌≢◌, ◌≤◌, ◌<◌, ◌++◌, ◌↔◌, ℕ, Bool, List, All, IsTrue, decimal, length, map, MatchOption};
+ghost use Rattle.std.specs.Prelude.{◌≡◌, ◌≢◌, ◌≤◌, ◌<◌, ◌++◌, ◌↔◌, ℕ, Bool, true, List, All, IsTrue, decimal, length, map, MatchOption};
 ghost use Rattle.search_plan.specs.Plans.{AreRising};
-ghost use Rattle.value_text.specs.Bounded.{AreChunks, AreMembers};
-ghost use Rattle.plan_text.specs.Parts.{AreBelow};
+ghost use Rattle.value_text.specs.Bounded.{AreChunks, AreDelays, AreMembers};
+ghost use Rattle.plan_text.specs.declared.parts.AfterPatterns.{AfterPatterns as AfterPatternsOf};
+ghost use Rattle.plan_text.specs.Parts.{AreBelow, MayComeAfter, line_after};
 ghost use Rattle.value_text.specs.Spelling.{commas};
-ghost use Rattle.plan_text.specs.PlanText.{mode_line};
+ghost use Rattle.plan_text.specs.PlanText.{mode_line, some_delays as some_delays_of};
 
+use crate::parts::AfterPatterns;
 use arrayvec::ArrayVec;
-use raid_params::{MOST_CHUNKS, MOST_LESS_ONE};
-use value_text::{Listed, after, read_chunks, read_members, read_number, read_sectors, rising};
+use raid_params::{MOST_CHUNKS, MOST_DELAYS, MOST_LESS_ONE};
+use value_text::{
+    Listed, after, read_chunks, read_delays, read_members, read_number, read_sectors, rising,
+};
 
 /// Whether each image has an offset of its own, as a line says that is one of the mode.
 pub fn mode_after(line: &[u8]) -> Option<bool>
@@ -64,6 +68,43 @@ pub fn chunks_after(line: &[u8], word: &[u8]) -> Option<ArrayVec<u64, MOST_CHUNK
         (λ ns. AreChunks ns.items × (line.now ≡ word.now ++ commas (map decimal ns.items))) }
 {
     read_chunks(after(line, word)?)
+}
+
+/// What a line spells that stands after the patterns: delays, which version 3 alone has, or orders of Q.
+pub fn after_patterns(line: &[u8], third: bool) -> Option<AfterPatterns>
+    ensures { MatchOption result
+        ((what : AfterPatternsOf) → MayComeAfter third what → line.now ≢ line_after what)
+        (λ what. MayComeAfter third what × (line.now ≡ line_after what)) }
+{
+    match after(line, b"delays ") {
+        Some(text) if third => Some(AfterPatterns::Delays(other_delays(text)?)),
+        Some(_) => None,
+        None => Some(AfterPatterns::Syndromes(list_after(line, b"syndromes ")?)),
+    }
+}
+
+/// The delays that a text spells, which are others than one alone.
+fn other_delays(text: &[u8]) -> Option<ArrayVec<u64, MOST_DELAYS>>
+    ensures { MatchOption result
+        ((ns : List ℕ) → AreDelays ns × (some_delays_of ns ≡ true) → text.now ≢ commas (map decimal ns))
+        (λ ns. (AreDelays ns.items × (some_delays_of ns.items ≡ true)) × (text.now ≡ commas (map decimal ns.items))) }
+{
+    let delays = read_delays(text)?;
+    if some_delays(&delays) {
+        Some(delays)
+    } else {
+        None
+    }
+}
+
+/// Whether delays are others than one alone.
+pub fn some_delays(delays: &[u64]) -> bool
+    ensures { result ≡ some_delays_of delays.now }
+{
+    match delays {
+        [delay] => *delay != 1,
+        _ => true,
+    }
 }
 
 /// The places that a line spells after the word, each below `end`.

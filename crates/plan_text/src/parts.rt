@@ -2,8 +2,8 @@
 use arrayvec::ArrayVec;
 use landmark_rules::{MOST_ORIGINS, MarkTests};
 use raid_params::{
-    Bounds, Level, MOST_CHUNKS, MOST_LESS_ONE, MOST_LEVELS, MOST_OFFSETS, MOST_PATTERNS,
-    MOST_SYNDROMES, Pattern, Syndrome,
+    Bounds, Level, MOST_CHUNKS, MOST_DELAYS, MOST_LESS_ONE, MOST_LEVELS, MOST_OFFSETS,
+    MOST_PATTERNS, MOST_SYNDROMES, Pattern, Syndrome,
 };
 use search_plan::Limits;
 
@@ -13,7 +13,17 @@ pub struct Arrays {
     pub levels: ArrayVec<Level, MOST_LEVELS>,
     pub members: ArrayVec<u8, MOST_LESS_ONE>,
     pub patterns: ArrayVec<Pattern, MOST_PATTERNS>,
+    pub delays: ArrayVec<u64, MOST_DELAYS>,
     pub syndromes: ArrayVec<Syndrome, MOST_SYNDROMES>,
+}
+
+/// What stands on the line after the patterns.
+#[derive(Drop)]
+pub enum AfterPatterns {
+    /// Delays, which are others than one alone.
+    Delays(ArrayVec<u64, MOST_DELAYS>),
+    /// The orders of Q: parity stays for one row.
+    Syndromes(ArrayVec<Syndrome, MOST_SYNDROMES>),
 }
 
 /// Where data and file systems may begin, in sectors, and the chunk sizes.

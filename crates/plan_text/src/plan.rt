@@ -3,6 +3,7 @@ ghost use Rattle.std.specs.Prelude.{◌≡◌, ◌≤◌, ◌↔◌, ℕ, All, l
 ghost use Rattle.plan_text.specs.PlanText.{ReadsPlan};
 
 use crate::fault::PlanFault;
+use crate::lines::some_delays;
 use crate::reader::PlanReader;
 use search_plan::Plan;
 use std::alloc::Global;
@@ -19,8 +20,9 @@ pub fn read_plan(alloc: Global, text: &[u8]) -> Result<Plan, PlanFault>
     let version = reader.version()?;
     let each = version.each;
     let lengths = reader.images(each)?;
-    let search = reader.search(shortest(&lengths), each)?;
-    let groups = reader.groups(alloc, &lengths, version.own)?;
+    let search = reader.search(shortest(&lengths), version)?;
+    let delayed = some_delays(&search.bounds.delays);
+    let groups = reader.groups(alloc, &lengths, version.third, delayed)?;
     reader.end()?;
     Ok(Plan {
         lengths,

@@ -1,7 +1,7 @@
 //! The lines of a plan before its groups, one after the other.
 ghost use Rattle.std.specs.Prelude.{◌≡◌, ◌≤◌, ◌++◌, ◌∷◌, [], All, IsTrue, codes, decimal, length, map};
 ghost use Rattle.search_plan.specs.Plans.{AreRising};
-ghost use Rattle.plan_text.specs.Parts.{AreArrays, AreBelow, AreCounts, AreImages, AreSizes, IsSearch, lines_of_arrays, lines_of_sizes, lines_of_counts, lines_of_search};
+ghost use Rattle.plan_text.specs.Parts.{AreArrays, AreBelow, AreCounts, AreImages, AreSizes, IsSearch, lines_of_arrays, lines_of_sizes, lines_of_counts, lines_of_search, MayComeAfter, line_after};
 ghost use Rattle.value_text.specs.Bounded.{AreMembers, AreChunks};
 ghost use Rattle.plan_text.specs.PlanText.{image_lines, mode_line, version_lines};
 ghost use Rattle.plan_text.specs.Reading.{Reads, is_line};
@@ -9,31 +9,33 @@ ghost use Rattle.value_text.specs.Spelling.{commas, named};
 
 use crate::fault::PlanFault;
 use crate::lines::{
-    chunks_after, list_after, members_after, mode_after, number_after, sectors_after,
+    after_patterns, chunks_after, list_after, members_after, mode_after, number_after,
+    sectors_after,
 };
-use crate::parts::{Arrays, Counts, Search, Sizes};
+use crate::parts::{AfterPatterns, Arrays, Counts, Search, Sizes};
 use crate::reader::PlanReader;
 use crate::version::{Version, most_foreign, sectors_end};
 use arrayvec::ArrayVec;
 use landmark_rules::MarkTests;
-use raid_params::{Bounds, MOST, MOST_CHUNKS, MOST_LESS_ONE, MOST_MISSING, SECTORS_END};
+use raid_params::{
+    Bounds, MOST, MOST_CHUNKS, MOST_DELAYS, MOST_LESS_ONE, MOST_MISSING, SECTORS_END,
+};
 use search_plan::Limits;
 use value_text::{Field, Listed};
 
 impl<'a> PlanReader<'a> {
-    /// What the version of the text says: whether each image has an offset of its own, and whether some group has bounds of its
-    /// own.
+    /// What the version of the text says: whether each image has an offset of its own, and whether it is version 3.
     pub fn version(&mut self) -> Result<Version, PlanFault>
-        ensures { Reads (λ _. Unit {0}) (λ version. version_lines version.each version.own) self.old self.new result }
+        ensures { Reads (λ _. Unit {0}) (λ version. version_lines version.each version.third) self.old self.new result }
     {
         let number = self.number(b"reraid-plan ", 1, 3)?;
         if number == 3 {
             let each = self.mode()?;
-            Ok(Version { each, own: true })
+            Ok(Version { each, third: true })
         } else {
             Ok(Version {
                 each: number == 2,
-                own: false,
+                third: false,
             })
         }
     }
@@ -59,17 +61,18 @@ impl<'a> PlanReader<'a> {
     }
 
     /// What is searched, and how it is tested: `end` is at most the shortest length.
-    pub fn search(&mut self, shortest: u64, each: bool) -> Result<Search, PlanFault>
-        ensures { Reads (IsSearch shortest each) lines_of_search self.old self.new result }
+    pub fn search(&mut self, shortest: u64, version: Version) -> Result<Search, PlanFault>
+        ensures { Reads (IsSearch shortest version.each version.third) lines_of_search self.old self.new result }
     {
         let end = self.number(b"end ", 0, shortest)?;
-        let arrays = self.arrays()?;
-        let sizes = self.sizes(each)?;
-        let counts = self.counts(each)?;
+        let arrays = self.arrays(version.third)?;
+        let sizes = self.sizes(version.each)?;
+        let counts = self.counts(version.each)?;
         let bounds = Bounds {
             levels: arrays.levels,
             members: arrays.members,
             patterns: arrays.patterns,
+            delays: arrays.delays,
             syndromes: arrays.syndromes,
             chunks: sizes.chunks,
             offsets: sizes.offsets,
@@ -93,20 +96,40 @@ impl<'a> PlanReader<'a> {
         })
     }
 
-    /// The levels, members, patterns and orders of Q.
-    fn arrays(&mut self) -> Result<Arrays, PlanFault>
-        ensures { Reads AreArrays lines_of_arrays self.old self.new result }
+    /// The levels, members, patterns, delays and orders of Q. Without a line of delays parity stays for one row.
+    fn arrays(&mut self, third: bool) -> Result<Arrays, PlanFault>
+        ensures { Reads (AreArrays third) lines_of_arrays self.old self.new result }
     {
         let levels = self.list(b"levels ")?;
         let members = self.members()?;
         let patterns = self.list(b"patterns ")?;
-        let syndromes = self.list(b"syndromes ")?;
-        Ok(Arrays {
-            levels,
-            members,
-            patterns,
-            syndromes,
-        })
+        match self.after_patterns(third)? {
+            AfterPatterns::Delays(delays) => {
+                let syndromes = self.list(b"syndromes ")?;
+                Ok(Arrays {
+                    levels,
+                    members,
+                    patterns,
+                    delays,
+                    syndromes,
+                })
+            }
+            AfterPatterns::Syndromes(syndromes) => Ok(Arrays {
+                levels,
+                members,
+                patterns,
+                delays: one_delay(),
+                syndromes,
+            }),
+        }
+    }
+
+    /// The line after the patterns.
+    fn after_patterns(&mut self, third: bool) -> Result<AfterPatterns, PlanFault>
+        ensures { Reads (MayComeAfter third) (λ what. line_after what ∷ []) self.old self.new result }
+    {
+        let line = self.next_line()?;
+        after_patterns(line, third).ok_or(self.refusal())
     }
 
     /// The chunk sizes, the offsets and the origins.
@@ -199,4 +222,13 @@ impl<'a> PlanReader<'a> {
         let line = self.next_line()?;
         number_after(line, word, least, most).ok_or(self.refusal())
     }
+}
+
+/// The delay of one row alone.
+fn one_delay() -> ArrayVec<u64, MOST_DELAYS>
+    ensures { result.items ≡ 1 ∷ [] }
+{
+    let mut delays = ArrayVec::new();
+    delays.push(1);
+    delays
 }

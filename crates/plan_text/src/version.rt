@@ -13,16 +13,16 @@ const MOVABLE_END: u64 = 1 << 54;
 pub struct Version {
     /// Whether each image has an offset of its own.
     pub each: bool,
-    /// Whether some group has bounds of its own.
-    pub own: bool,
+    /// Whether it is version 3, which says more than the others can: delays other than one, or bounds of groups.
+    pub third: bool,
 }
 
-/// The version of the text of a plan: 3 where a group has bounds of its own, otherwise 2 where each image has an offset of
-/// its own, and 1 where all share one.
+/// The version of the text of a plan: 3 where the plan has delays other than one or a group has bounds of its own, otherwise 2
+/// where each image has an offset of its own, and 1 where all share one.
 pub fn version_number(version: Version) -> u64
-    ensures { result ≡ version_number_of version.each version.own }
+    ensures { result ≡ version_number_of version.each version.third }
 {
-    if version.own {
+    if version.third {
         3
     } else if version.each {
         2

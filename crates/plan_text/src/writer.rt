@@ -1,10 +1,11 @@
 //! The text of a plan.
 ghost use Rattle.std.specs.Prelude.{◌≡◌, ◌∷◌, ◌++◌, [], IfOk, OnOk, codes, decimal, map};
 ghost use Rattle.std.specs.List.{flat_map};
-ghost use Rattle.plan_text.specs.PlanText.{plan_text, version_lines, image_lines, search_lines, arrays_lines, sizes_lines, counts_lines, groups_lines, bounds_lines, mark_line, mark_text, mode_line, rule_text, some_bounds};
+ghost use Rattle.plan_text.specs.PlanText.{plan_text, version_lines, image_lines, search_lines, arrays_lines, delays_lines, sizes_lines, counts_lines, groups_lines, bounds_lines, mark_line, mark_text, mode_line, rule_text, says_more, some_bounds as some_bounds_of, some_delays as some_delays_of};
 ghost use Rattle.value_text.specs.Spelling.{commas, line as line_of, named};
 ghost use Rattle.landmark_text.specs.Names.{group_name as group_spelling};
 
+use crate::lines::some_delays;
 use crate::version::{Version, mode_name, version_number};
 use landmark_rules::{Group, GroupKind, Mark, MarkBounds, MarkTests, Rule};
 use landmark_text::group_name;
@@ -29,21 +30,28 @@ pub fn write_plan(alloc: Global, plan: &Plan) -> Result<Text, Memory>
 /// What the version of the text of a plan has to say.
 fn version_of(plan: &Plan) -> Version
     ensures each { result.each ≡ plan.now.each }
-    ensures own { result.own ≡ some_bounds plan.now.groups }
+    ensures third { result.third ≡ says_more (some_delays_of plan.now.bounds.delays.items) plan.now.groups }
 {
-    let groups = plan.groups.as_slice();
+    let delayed = some_delays(&plan.bounds.delays);
     Version {
         each: plan.each,
-        own: groups.iter().any(|group| group.bounds.is_some()),
+        third: delayed || some_bounds(plan.groups.as_slice()),
     }
+}
+
+/// Whether some group has bounds of its own.
+fn some_bounds(groups: &[Group]) -> bool
+    ensures { result ≡ some_bounds_of groups.now }
+{
+    groups.iter().any(|group| group.bounds.is_some())
 }
 
 /// Appends the line of the version, and that of the mode where the version has one.
 fn add_version(text: &mut Text, version: Version) -> Result<(), Memory>
-    ensures { OnOk result (text.new ≡ text.old ++ flat_map line_of (version_lines version.each version.own)) }
+    ensures { OnOk result (text.new ≡ text.old ++ flat_map line_of (version_lines version.each version.third)) }
 {
     add_number_line(text, b"reraid-plan ", version_number(version))?;
-    if version.own {
+    if version.third {
         add_mode(text, version.each)?;
     }
     Ok(())
@@ -79,14 +87,25 @@ fn add_search(text: &mut Text, plan: &Plan) -> Result<(), Memory>
     add_counts(text, &plan.bounds, &plan.limits, &plan.tests)
 }
 
-/// Appends the lines of levels, members, patterns and orders of Q.
+/// Appends the lines of levels, members, patterns, delays and orders of Q.
 fn add_arrays(text: &mut Text, bounds: &Bounds) -> Result<(), Memory>
     ensures { OnOk result (text.new ≡ text.old ++ flat_map line_of (arrays_lines bounds.now)) }
 {
     add_list_line(text, b"levels ", &bounds.levels)?;
     add_list_line(text, b"members ", &bounds.members)?;
     add_list_line(text, b"patterns ", &bounds.patterns)?;
+    add_delays(text, &bounds.delays)?;
     add_list_line(text, b"syndromes ", &bounds.syndromes)
+}
+
+/// Appends the line of delays, where they are others than one alone.
+fn add_delays(text: &mut Text, delays: &[u64]) -> Result<(), Memory>
+    ensures { OnOk result (text.new ≡ text.old ++ flat_map line_of (delays_lines (some_delays_of delays.now) delays.now)) }
+{
+    if some_delays(delays) {
+        add_list_line(text, b"delays ", delays)?;
+    }
+    Ok(())
 }
 
 /// Appends the lines of chunk sizes, offsets and origins.

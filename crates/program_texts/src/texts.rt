@@ -19,10 +19,11 @@ of its disks. It only reads the images. Operands come in any order.
             -- IMAGE..
       how the images depend on one another, before any layout is known
       reraid relations -- *.img
-  survey [levels=LIST] [members=LIST] [patterns=LIST] [syndromes=LIST]
-         [chunks=LIST] [offsets=LIST] [origins=LIST] [missing=M] [foreign=F]
-         [badrows=B] [misfits=M] [least=F] [window=W] [end=END] [kinds=LIST]
-         [drop=LIST] [mode=MODE] [logical=BYTES] -- IMAGE..  > PLAN
+  survey [levels=LIST] [members=LIST] [patterns=LIST] [delays=LIST]
+         [syndromes=LIST] [chunks=LIST] [offsets=LIST] [origins=LIST]
+         [missing=M] [foreign=F] [badrows=B] [misfits=M] [least=F] [window=W]
+         [end=END] [kinds=LIST] [drop=LIST] [mode=MODE] [logical=BYTES]
+         -- IMAGE..  > PLAN
       the plan of a search, with the landmarks that the images hold
       reraid survey levels=5 members=3 missing=1 -- a.img b.img > plan
   list [from=RANK] [size=LINES] [span=RANKS] [pages=PAGES] [form=FORM]

@@ -3,12 +3,12 @@
 //! A search goes through the slot lists of a head place by place. A prefix is hopeful where nothing in it rules
 //! out yet that a set whose slots begin so passes: the groups of marks may still hold, and no more rows are known
 //! to be unsound than may be. [`prefix_may_pass`] answers it, by two tables that are built once: a [`MarkTable`]
-//! for a head counts the marks by group, origin, slot and image, and an [`XorTable`] for a chunk and an offset
+//! for a head counts the marks by group, origin, slot and image, and an [`XorTable`] for a chunk, a delay and an offset
 //! counts the tested rows of sectors in which the images differ. [`needs_table`] says which heads need the second,
 //! and [`rows_decide`] for which it answers the parity test of their sets already.
 //!
 //! Where images do not belong together, the first rows show it: an [`EarlyTable`] is made in one reading for all
-//! chunks of an offset, which ends where further rows could tell nothing more of the levels of the plan. By it
+//! chunks and delays of an offset, which ends where further rows could tell nothing more of the levels of the plan. By it
 //! [`HeadRows`] holds, once for a head, what breaks where an image stands in a slot, and [`early_may_pass`] answers by
 //! them as [`prefix_may_pass`] does by the whole table.
 //!
@@ -27,5 +27,6 @@ pub use laws::{
 pub use mark_tables::MarkTable;
 pub use prefix::{early_may_pass, prefix_may_pass};
 pub use xor_tables::{
-    EarlyTable, HeadRows, TableFault, XorTable, most_rows, needs_samples, needs_table, rows_decide,
+    EarlyTable, HeadRows, Pace, TableFault, XorTable, most_rows, needs_samples, needs_table,
+    rows_decide,
 };

@@ -16,7 +16,7 @@ use search_plan::Plan;
 use xor_tables::{HeadRows, XorTable, rows_may_hold};
 
 /// Whether a parameter set of the head whose slots begin with the prefix may still pass: where it may not, none
-/// does. `marks` is the table of this plan and head. `xors` is that of the plan and the head's chunk and offset,
+/// does. `marks` is the table of this plan and head. `xors` is that of the plan and the head's pace and offset,
 /// over the images' bytes; it is looked at only where the head needs one. It takes no memory.
 pub fn prefix_may_pass(
     marks: &MarkTable,

@@ -10,7 +10,7 @@ use Rattle.raid_terms.specs.Exponent.{walk, number_after_q, item_in, exponent_of
 use Rattle.raid_terms.specs.Role.{double_p, double_q}
 
 abbrev of : Syndrome → Head
-of syndrome = record { level = Raid6; members = 4; pattern = La; syndrome = syndrome; chunk = 1; offset = 0 }
+of syndrome = record { level = Raid6; members = 4; pattern = La; delay = 1; syndrome = syndrome; chunk = 1; offset = 0 }
 
 the_walk : walk 4 2 ≡ 3 ∷ 0 ∷ 1 ∷ 2 ∷ []
 the_walk = refl

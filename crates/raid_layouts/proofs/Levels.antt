@@ -2,15 +2,17 @@
 use Rattle.std.proofs.Common.{◌≡◌, ◌≢◌, ℕ, ◌+◌, ◌-◌, ◌<◌, ◌≤◌, ◌⊎◌, inl, inr, sym, arith, ap, ◌∙◌, refl, Option, Some, None}
 use Rattle.std.proofs.lemmas.Bool.{cases_eq}
 use Rattle.std.proofs.lemmas.Bool.{leb-true}
-use Rattle.std.specs.Prelude.{IsTrue}
+use Rattle.std.proofs.lemmas.Bool.Decides.{nat_tests}
+use Rattle.std.specs.Prelude.{Bool, true, false, IsTrue, nat_eq, nat_le, ◌&&◌, ◌||◌}
+use Rattle.raid_params.specs.declared.limits.TheConstants.{LONGEST_DELAY}
 use Rattle.raid_params.specs.declared.types.Head.{Head}
 use Rattle.raid_params.specs.declared.types.Level.{Level}
 use Rattle.raid_params.specs.declared.types.Level.TheVariants.{Raid0, Raid5, Raid6}
 use Rattle.raid_params.specs.declared.types.Pattern.{Pattern}
 use Rattle.raid_params.specs.declared.types.Pattern.TheVariants.{Plain, La, Ra, Ls, Rs, ParityFirst, ParityLast, NRestart, NContinue, La6, Ra6, Ls6, Rs6, ParityFirst6}
-use Rattle.raid_params.specs.Validity.{fewest, is_valid_head}
+use Rattle.raid_params.specs.Validity.{fewest, has_delay, has_members, has_pattern, has_syndrome, is_chunk, is_valid_head, moves}
 use Rattle.raid_params.specs.Size.{redundancy, data_blocks}
-use Rattle.raid_terms.specs.Role.{Role, Item, P, Q, leftward, rightward, single_p, single_item, double_p, double_q, double_item, p_at, q_at, item_at, p_of, q_of, item_of, HasRole}
+use Rattle.raid_terms.specs.Role.{Role, Item, P, Q, leftward, rightward, single_p, single_item, double_p, double_q, double_item, p_at, q_at, item_at, p_of, q_of, item_of, HasRole, turn}
 use Rattle.raid_layouts.proofs.Single.{IsSingle}
 use Rattle.raid_layouts.proofs.Double.{IsDouble}
 use Rattle.raid_layouts.proofs.Single
@@ -111,8 +113,26 @@ enough head h = grind (arith, leb-true)
 pub at_most : (head : Head) → IsTrue (is_valid_head head) → head.members ≤ 24
 at_most head h = grind (arith, leb-true)
 
+-- and its parity stays for a row at least
+second : (a b : Bool) → IsTrue (a && b) → IsTrue b
+second true b h = h
+second false b h = absurd (cc)
+
+not_nothing : (m : Bool) (delay : ℕ) → IsTrue (nat_eq delay 1 || (m && (nat_le 1 delay && nat_le delay LONGEST_DELAY))) → 1 ≤ delay
+not_nothing m delay h = grind (arith, nat_tests)
+
+pub some_delay : (head : Head) → IsTrue (is_valid_head head) → 1 ≤ head.delay
+some_delay head h =
+    let chunk = is_chunk head.chunk && has_delay head.pattern head.delay in
+    let syndrome = has_syndrome head.level head.syndrome && chunk in
+    let pattern = has_pattern head.level head.pattern && syndrome in
+    let in_pattern : IsTrue pattern = second (has_members head.level head.members) pattern h in
+    let in_syndrome : IsTrue syndrome = second (has_pattern head.level head.pattern) syndrome in_pattern in
+    let in_chunk : IsTrue chunk = second (has_syndrome head.level head.syndrome) chunk in_syndrome in
+    not_nothing (moves head.pattern) head.delay (second (is_chunk head.chunk) (has_delay head.pattern head.delay) in_chunk)
+
 pub layout_of : (head : Head) (row : ℕ) → IsTrue (is_valid_head head) → IsLayout head.members (data_blocks head) (p_of head row) (q_of head row) (item_of head row)
-layout_of head row h = layout_at head.level head.pattern head.members row (enough head h)
+layout_of head row h = layout_at head.level head.pattern head.members (turn head row) (enough head h)
 
 -- items stand on slots of the row
 pub item_below : (head : Head) (row i : ℕ) → IsTrue (is_valid_head head) → i < data_blocks head → item_of head row i < head.members
@@ -151,11 +171,11 @@ there_q Raid6 pattern n row s e = omega arith
 pub each_role : EachRoleHasOneSlot
 each_role head row P valid is =
     let l = layout_of head row valid in
-    let at = p_there head.level head.pattern head.members row is in
+    let at = p_there head.level head.pattern head.members (turn head row) is in
     (at.0, l.p_in at.0 at.1, at.1, λ other e. unwrap (sym e ∙ at.1))
 each_role head row Q valid is =
     let l = layout_of head row valid in
-    let at = q_there head.level head.pattern head.members row is in
+    let at = q_there head.level head.pattern head.members (turn head row) is in
     (at.0, l.q_in at.0 at.1, at.1, λ other e. unwrap (sym e ∙ at.1))
 each_role head row (Item i) valid is =
     let l = layout_of head row valid in
@@ -184,9 +204,9 @@ pub each_slot : EachSlotHasOneRole
 each_slot head row slot valid below =
     let l = layout_of head row valid in
     elim (stands_on (p_of head row) slot) [
-      | inl e ↦ (P, there_p head.level head.pattern head.members row slot e, e, just_p head row slot valid e)
+      | inl e ↦ (P, there_p head.level head.pattern head.members (turn head row) slot e, e, just_p head row slot valid e)
       | inr np ↦ elim (stands_on (q_of head row) slot) [
-        | inl e ↦ (Q, there_q head.level head.pattern head.members row slot e, e, just_q head row slot valid e)
+        | inl e ↦ (Q, there_q head.level head.pattern head.members (turn head row) slot e, e, just_q head row slot valid e)
         | inr nq ↦
             let at = l.found slot below np nq in
             (Item at.0, at.1, (at.1, at.2), just_item head row slot at.0 valid (at.1, at.2))

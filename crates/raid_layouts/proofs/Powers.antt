@@ -15,7 +15,7 @@ use Rattle.raid_params.specs.declared.types.Syndrome.TheVariants.{NoQ, AfterQ, B
 use Rattle.raid_params.specs.Size.{data_blocks}
 use Rattle.raid_terms.specs.Exponent.{HoldsData, number_after_q, item_in, exponent_by}
 use Rattle.raid_params.specs.Validity.{fewest, has_syndrome, is_valid_head}
-use Rattle.raid_terms.specs.Role.{HasRole, Item, double_p, double_q, p_at, q_at, p_of, q_of, item_of}
+use Rattle.raid_terms.specs.Role.{HasRole, Item, double_p, double_q, p_at, q_at, p_of, q_of, item_of, turn}
 use Rattle.raid_layouts.specs.Laws.{ExponentsAreBelowMembers, ExponentsDiffer}
 use Rattle.raid_layouts.proofs.Levels.{enough, layout_of, double_of}
 use Rattle.raid_layouts.proofs.Single.{round_behind, round_before}
@@ -33,13 +33,13 @@ p_there level pattern n row e = ap (λ (l : Level). p_at l pattern n row) e
 q_there : (level : Level) (pattern : Pattern) (n row : ℕ) → level ≡ Raid6 → q_at level pattern n row ≡ Some (double_q pattern n row)
 q_there level pattern n row e = ap (λ (l : Level). q_at l pattern n row) e
 
-pub data_off_p : (head : Head) (row slot : ℕ) → IsTrue (is_valid_head head) → head.level ≡ Raid6 → HoldsData head row slot → slot ≢ double_p head.pattern head.members row
+pub data_off_p : (head : Head) (row slot : ℕ) → IsTrue (is_valid_head head) → head.level ≡ Raid6 → HoldsData head row slot → slot ≢ double_p head.pattern head.members (turn head row)
 data_off_p head row slot valid e has f =
-    data_not_p head row slot valid has (p_there head.level head.pattern head.members row e ∙ ap (λ (x : ℕ). Some x) (sym f))
+    data_not_p head row slot valid has (p_there head.level head.pattern head.members (turn head row) e ∙ ap (λ (x : ℕ). Some x) (sym f))
 
-pub data_off_q : (head : Head) (row slot : ℕ) → IsTrue (is_valid_head head) → head.level ≡ Raid6 → HoldsData head row slot → slot ≢ double_q head.pattern head.members row
+pub data_off_q : (head : Head) (row slot : ℕ) → IsTrue (is_valid_head head) → head.level ≡ Raid6 → HoldsData head row slot → slot ≢ double_q head.pattern head.members (turn head row)
 data_off_q head row slot valid e has f =
-    data_not_q head row slot valid has (q_there head.level head.pattern head.members row e ∙ ap (λ (x : ℕ). Some x) (sym f))
+    data_not_q head row slot valid has (q_there head.level head.pattern head.members (turn head row) e ∙ ap (λ (x : ℕ). Some x) (sym f))
 
 four : (level : Level) (n : ℕ) → level ≡ Raid6 → fewest level ≤ n → 4 ≤ n
 four level n e h = subst (λ (l : Level). fewest l ≤ n) e h
@@ -49,11 +49,11 @@ four_members head valid e = four head.level head.members e (enough head valid)
 
 -- P and Q of level 6 stand on two slots
 pub parity_apart : (head : Head) (row : ℕ) → IsTrue (is_valid_head head) → head.level ≡ Raid6 →
-    (double_p head.pattern head.members row < head.members) × (double_q head.pattern head.members row < head.members)
-    × (double_p head.pattern head.members row ≢ double_q head.pattern head.members row)
+    (double_p head.pattern head.members (turn head row) < head.members) × (double_q head.pattern head.members (turn head row) < head.members)
+    × (double_p head.pattern head.members (turn head row) ≢ double_q head.pattern head.members (turn head row))
 parity_apart head row valid e =
     let n = four_members head valid e in
-    let l = double_of head.pattern head.members row (omega arith) in
+    let l = double_of head.pattern head.members (turn head row) (omega arith) in
     (l.p_in, l.q_in, l.p_not_q)
 
 -- the steps of the walk to a slot
@@ -84,18 +84,18 @@ data_in head row slot valid has =
 
 -- a slot of data, with the steps of the walk to it and to P
 record Walked (head : Head) (row slot : ℕ) : Type 0 where
-  q_in : double_q head.pattern head.members row < head.members
-  to_slot : Steps head.members (double_q head.pattern head.members row) slot
-  to_p : Steps head.members (double_q head.pattern head.members row) (double_p head.pattern head.members row)
-  off_p : slot ≢ double_p head.pattern head.members row
+  q_in : double_q head.pattern head.members (turn head row) < head.members
+  to_slot : Steps head.members (double_q head.pattern head.members (turn head row)) slot
+  to_p : Steps head.members (double_q head.pattern head.members (turn head row)) (double_p head.pattern head.members (turn head row))
+  off_p : slot ≢ double_p head.pattern head.members (turn head row)
 
 walked : (head : Head) (row slot : ℕ) → IsTrue (is_valid_head head) → head.level ≡ Raid6 → HoldsData head row slot → Walked head row slot
 walked head row slot valid six has =
     let apart = parity_apart head row valid six in
     record {
       q_in = apart.1;
-      to_slot = steps_to head.members (double_q head.pattern head.members row) slot apart.1 (data_in head row slot valid has) (data_off_q head row slot valid six has);
-      to_p = steps_to head.members (double_q head.pattern head.members row) (double_p head.pattern head.members row) apart.1 apart.0 apart.2;
+      to_slot = steps_to head.members (double_q head.pattern head.members (turn head row)) slot apart.1 (data_in head row slot valid has) (data_off_q head row slot valid six has);
+      to_p = steps_to head.members (double_q head.pattern head.members (turn head row)) (double_p head.pattern head.members (turn head row)) apart.1 apart.0 apart.2;
       off_p = data_off_p head row slot valid six has;
     }
 
@@ -130,7 +130,7 @@ small_in : (syndrome : Syndrome) (head : Head) (row slot : ℕ) → IsTrue (is_v
     exponent_by syndrome head row slot < head.members
 small_in AfterQ head row slot valid six has =
     let w = walked head row slot valid six has in
-    number_small head.members (double_p head.pattern head.members row) (double_q head.pattern head.members row) slot w.q_in w.to_slot w.to_p
+    number_small head.members (double_p head.pattern head.members (turn head row)) (double_q head.pattern head.members (turn head row)) slot w.q_in w.to_slot w.to_p
 small_in ByData head row slot valid six has =
     let h = has.1.0 in
     let e = item_is head row slot has.0 valid has.1.0 has.1.1 in
@@ -157,7 +157,7 @@ differ : (syndrome : Syndrome) (head : Head) (row s t : ℕ) → syndrome ≢ No
 differ AfterQ head row s t ne valid six a b e =
     let v = walked head row s valid six a in
     let w = walked head row t valid six b in
-    number_once head.members (double_p head.pattern head.members row) (double_q head.pattern head.members row) s t _
+    number_once head.members (double_p head.pattern head.members (turn head row)) (double_q head.pattern head.members (turn head row)) s t _
     v.to_slot.steps w.to_slot.steps v.to_p.steps v.q_in v.to_slot.few w.to_slot.few v.to_p.few v.to_slot.there w.to_slot.there v.to_p.there v.off_p w.off_p refl e
 differ ByData head row s t ne valid six a b e =
     let x : item_in head row s ≡ a.0 = item_is head row s a.0 valid a.1.0 a.1.1 in

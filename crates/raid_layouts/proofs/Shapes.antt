@@ -8,7 +8,7 @@ use Rattle.std.specs.Option.{is_none, option_map_or, option_and_then}
 use Rattle.std.specs.Prelude.{IsTrue, nat_eq, nat_le, ◌&&◌, not, if◌then◌else◌}
 use Rattle.raid_params.specs.Size.{redundancy}
 use Rattle.raid_params.specs.Slots.{empties, stands}
-use Rattle.raid_params.specs.Validity.{is_shaped, is_valid_head, has_members, has_pattern, has_syndrome, is_chunk, slots_fault, first_absent, is_absent, first_repeat, is_met_again}
+use Rattle.raid_params.specs.Validity.{is_shaped, is_valid_head, has_members, has_pattern, has_syndrome, is_chunk, has_delay, shape_fault, slots_fault, first_absent, is_absent, first_repeat, is_met_again}
 use Rattle.raid_params.specs.declared.types.GeoFault.{GeoFault}
 use Rattle.raid_params.specs.declared.types.GeoFault.TheVariants.{Members, Pattern as BadPattern, Syndrome as BadSyndrome, Chunk, Missing}
 use Rattle.raid_params.specs.declared.types.Geometry.{Geometry}
@@ -20,6 +20,7 @@ record Rules (geo : Geometry) (images : ℕ) : Type 0 where
   pattern : has_pattern geo.head.level geo.head.pattern ≡ true
   syndrome : has_syndrome geo.head.level geo.head.syndrome ≡ true
   chunk : is_chunk geo.head.chunk ≡ true
+  delay : has_delay geo.head.pattern geo.head.delay ≡ true
   slots : is_none (slots_fault geo.head.level images geo.slots.items (first_absent images geo.slots.items) (first_repeat geo.slots.items)) ≡ true
 
 -- a rule that is kept
@@ -36,16 +37,17 @@ and_true a b p q = ap (λ (x : Bool). x && b) p ∙ q
 
 rules_of : (geo : Geometry) (images : ℕ) → is_shaped geo images ≡ true → Rules geo images
 rules_of geo images h =
+    let whole = both (is_none (shape_fault geo images)) (has_delay geo.head.pattern geo.head.delay) h in
     let n = length geo.slots.items in
     let last = slots_fault geo.head.level images geo.slots.items (first_absent images geo.slots.items) (first_repeat geo.slots.items) in
     let d : Option GeoFault = if not (is_chunk geo.head.chunk) then Some (Chunk geo.head.chunk) else last in
     let c : Option GeoFault = if not (has_syndrome geo.head.level geo.head.syndrome) then Some (BadSyndrome geo.head.syndrome) else d in
     let b : Option GeoFault = if not (has_pattern geo.head.level geo.head.pattern) then Some (BadPattern geo.head.pattern) else c in
-    let one = kept (has_members geo.head.level n && nat_eq geo.head.members n) (Members geo.head.members) b h in
+    let one = kept (has_members geo.head.level n && nat_eq geo.head.members n) (Members geo.head.members) b whole.0 in
     let two = kept (has_pattern geo.head.level geo.head.pattern) (BadPattern geo.head.pattern) c one.1 in
     let three = kept (has_syndrome geo.head.level geo.head.syndrome) (BadSyndrome geo.head.syndrome) d two.1 in
     let four = kept (is_chunk geo.head.chunk) (Chunk geo.head.chunk) last three.1 in
-    record { members = one.0; pattern = two.0; syndrome = three.0; chunk = four.0; slots = four.1 }
+    record { members = one.0; pattern = two.0; syndrome = three.0; chunk = four.0; delay = whole.1; slots = four.1 }
 
 -- there are as many slots as members
 pub shaped_slots : (geo : Geometry) (images : ℕ) → is_shaped geo images ≡ true → length geo.slots.items ≡ geo.head.members
@@ -59,9 +61,11 @@ shaped_head geo images h =
     let r = rules_of geo images h in
     let parts = both (has_members geo.head.level (length geo.slots.items)) (nat_eq geo.head.members (length geo.slots.items)) r.members in
     let members : has_members geo.head.level geo.head.members ≡ true = ap (λ (n : ℕ). has_members geo.head.level n) (sym (shaped_slots geo images h)) ∙ parts.0 in
-    and_true (has_members geo.head.level geo.head.members) (has_pattern geo.head.level geo.head.pattern && (has_syndrome geo.head.level geo.head.syndrome && is_chunk geo.head.chunk)) members
-    (and_true (has_pattern geo.head.level geo.head.pattern) (has_syndrome geo.head.level geo.head.syndrome && is_chunk geo.head.chunk) r.pattern
-    (and_true (has_syndrome geo.head.level geo.head.syndrome) (is_chunk geo.head.chunk) r.syndrome r.chunk))
+    let chunk : Bool = is_chunk geo.head.chunk && has_delay geo.head.pattern geo.head.delay in
+    and_true (has_members geo.head.level geo.head.members) (has_pattern geo.head.level geo.head.pattern && (has_syndrome geo.head.level geo.head.syndrome && chunk)) members
+    (and_true (has_pattern geo.head.level geo.head.pattern) (has_syndrome geo.head.level geo.head.syndrome && chunk) r.pattern
+    (and_true (has_syndrome geo.head.level geo.head.syndrome) chunk r.syndrome
+    (and_true (is_chunk geo.head.chunk) (has_delay geo.head.pattern geo.head.delay) r.chunk r.delay)))
 
 -- the rules on slots
 record SlotRules (level : Level) (slots : List (Option ℕ)) (absent repeated : Option ℕ) : Type 0 where

@@ -12,7 +12,7 @@ use Rattle.raid_params.specs.declared.types.Level.TheVariants.{Raid6}
 use Rattle.raid_terms.specs.Cells.{cells_from, part_of, row_cells, stands_in, weight_at}
 use Rattle.raid_terms.specs.Exponent.{HoldsData, exponent_of}
 use Rattle.raid_terms.specs.Parity.{IsRow, exponent_in, exponents, has_p, has_q, is_p, is_q}
-use Rattle.raid_terms.specs.Role.{p_of, q_of}
+use Rattle.raid_terms.specs.Role.{p_of, q_of, turn}
 use Rattle.raid_layouts.specs.Laws.{EachRowCanBeSolved}
 use Rattle.raid_layouts.proofs.Counts.{any_counted, cells_length, count_missing, count_p, count_parity, count_q, counted_any, both_numbers, number, number_few, q_beside, q_level}
 use Rattle.raid_layouts.proofs.Levels.{at_most, enough, layout_of}
@@ -106,7 +106,7 @@ level_of head row slots valid long has =
 beside_row : (head : Head) (row : ℕ) (slots : List (Option ℕ)) → IsTrue (is_valid_head head) → length slots ≡ head.members →
     has_q (cells_from head row 0 slots) ≡ true → has_p (cells_from head row 0 slots) ≡ true
 beside_row head row slots valid long has =
-    let one = q_beside head.level head.pattern head.members row (level_of head row slots valid long has) in
+    let one = q_beside head.level head.pattern head.members (turn head row) (level_of head row slots valid long has) in
     let count = count_p head row slots valid long in
     counted_any (λ c. is_p c.part) (cells_from head row 0 slots) (omega arith)
 
@@ -124,7 +124,7 @@ row_is geo images row shaped =
     let q = count_q head row slots valid long in
     let one_p = number_few (p_of head row) in
     let one_q = number_few (q_of head row) in
-    let all = both_numbers head.level head.pattern head.members row in
+    let all = both_numbers head.level head.pattern head.members (turn head row) in
     let parity = count_parity (cells_from head row 0 slots) in
     let lost = count_missing head row 0 slots in
     let kept = shaped_missing geo images shaped in
@@ -134,8 +134,8 @@ row_is geo images row shaped =
       one_p = omega arith;
       one_q = omega arith;
       beside = beside_row head row slots valid long;
-      apart = λ has. distinct_row head row slots valid long (q_level head.level head.pattern head.members row (level_of head row slots valid long has));
-      short = λ has. short_row head row slots valid long (q_level head.level head.pattern head.members row (level_of head row slots valid long has));
+      apart = λ has. distinct_row head row slots valid long (q_level head.level head.pattern head.members (turn head row) (level_of head row slots valid long has));
+      short = λ has. short_row head row slots valid long (q_level head.level head.pattern head.members (turn head row) (level_of head row slots valid long has));
       missing = omega arith;
     }
 

@@ -7,7 +7,7 @@ ghost use Rattle.raid_terms.specs.Role.{p_of, q_of, double_p as double_p_of, dou
 
 use crate::items::slots_between;
 use crate::parity::{double_p, double_q};
-use crate::roles::item_of_slot;
+use crate::roles::{item_of_slot, turn};
 use raid_params::{Head, MOST, Syndrome};
 
 /// How many data slots the walk from the slot after Q meets before a slot.
@@ -41,8 +41,9 @@ pub fn exponent(head: &Head, row: u64, slot: u8) -> u8
 {
     match head.syndrome {
         Syndrome::AfterQ => {
-            let p = double_p(head.pattern, head.members, row);
-            let q = double_q(head.pattern, head.members, row);
+            let turn = turn(head, row);
+            let p = double_p(head.pattern, head.members, turn);
+            let q = double_q(head.pattern, head.members, turn);
             number_after_q(head.members, p, q, slot)
         }
         Syndrome::ByData => item_of_slot(head, row, slot),

@@ -25,5 +25,5 @@ pub use laws::{
     exponents_are_below_members, exponents_differ,
 };
 pub use names::md_name;
-pub use roles::{SlotRole, p_slot, q_slot, role, slot_of_item};
+pub use roles::{SlotRole, p_slot, q_slot, role, slot_of_item, turn};
 pub use rows::row_cells;

@@ -2,7 +2,7 @@
 ghost use Rattle.std.specs.Prelude.{◌≡◌, ◌≢◌, ◌<◌, IsTrue};
 ghost use Rattle.raid_layouts.specs.Roles.{meant};
 ghost use Rattle.raid_params.specs.Validity.{is_valid_head};
-ghost use Rattle.raid_terms.specs.Role.{HasRole, item_of, p_of, q_of};
+ghost use Rattle.raid_terms.specs.Role.{HasRole, item_of, p_of, q_of, turn as turn_of};
 ghost use Rattle.raid_params.specs.Size.{data_blocks};
 
 use crate::items::{double_item_at, single_item_at};
@@ -20,6 +20,14 @@ pub enum SlotRole {
     Q,
 }
 
+/// The turn of a row, by which its layout goes: parity stays for some rows before it moves on.
+pub fn turn(head: &Head, row: u64) -> u64
+    requires { IsTrue (is_valid_head head.now) }
+    ensures { result ≡ turn_of head.now row }
+{
+    row / head.delay
+}
+
 /// The slot of P in a row, None exactly at level 0.
 #[tactic(auto, using(crate::proofs::Levels::enough, crate::proofs::Levels::at_most))]
 pub fn p_slot(head: &Head, row: u64) -> Option<u8>
@@ -28,8 +36,8 @@ pub fn p_slot(head: &Head, row: u64) -> Option<u8>
 {
     match head.level {
         Level::Raid0 => None,
-        Level::Raid5 => Some(single_p(head.pattern, head.members, row)),
-        Level::Raid6 => Some(double_p(head.pattern, head.members, row)),
+        Level::Raid5 => Some(single_p(head.pattern, head.members, turn(head, row))),
+        Level::Raid6 => Some(double_p(head.pattern, head.members, turn(head, row))),
     }
 }
 
@@ -41,7 +49,7 @@ pub fn q_slot(head: &Head, row: u64) -> Option<u8>
 {
     match head.level {
         Level::Raid0 | Level::Raid5 => None,
-        Level::Raid6 => Some(double_q(head.pattern, head.members, row)),
+        Level::Raid6 => Some(double_q(head.pattern, head.members, turn(head, row))),
     }
 }
 
@@ -55,8 +63,8 @@ pub fn slot_of_item(head: &Head, row: u64, item: u8) -> u8
 {
     match head.level {
         Level::Raid0 => item,
-        Level::Raid5 => single_item(head.pattern, head.members, row, item),
-        Level::Raid6 => double_item(head.pattern, head.members, row, item),
+        Level::Raid5 => single_item(head.pattern, head.members, turn(head, row), item),
+        Level::Raid6 => double_item(head.pattern, head.members, turn(head, row), item),
     }
 }
 
@@ -72,8 +80,8 @@ pub(crate) fn item_of_slot(head: &Head, row: u64, slot: u8) -> u8
 {
     match head.level {
         Level::Raid0 => slot,
-        Level::Raid5 => single_item_at(head.pattern, head.members, row, slot),
-        Level::Raid6 => double_item_at(head.pattern, head.members, row, slot),
+        Level::Raid5 => single_item_at(head.pattern, head.members, turn(head, row), slot),
+        Level::Raid6 => double_item_at(head.pattern, head.members, turn(head, row), slot),
     }
 }
 

@@ -1,20 +1,20 @@
 -- Which parameters make sense, and the first rule that a parameter set breaks.
-use Rattle.std.specs.Prelude.{ℕ, ◌+◌, ◌^◌, Bool, true, false, nat_eq, nat_le, ◌&&◌, not, if◌then◌else◌, List, length, take, slice_index_or}
+use Rattle.std.specs.Prelude.{ℕ, ◌+◌, ◌^◌, Bool, true, false, nat_eq, nat_le, ◌&&◌, ◌||◌, not, if◌then◌else◌, List, length, take, slice_index_or}
 use Rattle.std.specs.List.{find, list_any, range_with_len}
 use Rattle.std.specs.Option.{is_none, option_map_or, option_and_then}
 use Rattle.std.specs.declared.option.Option.{Option}
 use Rattle.std.specs.declared.option.Option.TheVariants.{None, Some}
 use Rattle.raid_params.specs.Size.{redundancy, rows}
 use Rattle.raid_params.specs.Slots.{empties, stands}
-use Rattle.raid_params.specs.declared.limits.TheConstants.{MOST, MOST_CHUNKS}
+use Rattle.raid_params.specs.declared.limits.TheConstants.{LONGEST_DELAY, MOST, MOST_CHUNKS}
 use Rattle.raid_params.specs.declared.types.GeoFault.{GeoFault}
-use Rattle.raid_params.specs.declared.types.GeoFault.TheVariants.{Members, Pattern as BadPattern, Syndrome as BadSyndrome, Chunk, Image, Repeat, Missing, NoRow}
+use Rattle.raid_params.specs.declared.types.GeoFault.TheVariants.{Members, Pattern as BadPattern, Syndrome as BadSyndrome, Chunk, Image, Repeat, Missing, NoRow, Delay}
 use Rattle.raid_params.specs.declared.types.Geometry.{Geometry}
 use Rattle.raid_params.specs.declared.types.Head.{Head}
 use Rattle.raid_params.specs.declared.types.Level.{Level}
 use Rattle.raid_params.specs.declared.types.Level.TheVariants.{Raid0, Raid5, Raid6}
 use Rattle.raid_params.specs.declared.types.Pattern.{Pattern}
-use Rattle.raid_params.specs.declared.types.Pattern.TheVariants.{Plain, La, Ra, Ls, Rs, ParityFirst, ParityLast}
+use Rattle.raid_params.specs.declared.types.Pattern.TheVariants.{Plain, La, Ra, Ls, Rs, ParityFirst, ParityLast, ParityFirst6}
 use Rattle.raid_params.specs.declared.types.Syndrome.{Syndrome}
 use Rattle.raid_params.specs.declared.types.Syndrome.TheVariants.{NoQ}
 
@@ -43,6 +43,18 @@ has_syndrome Raid6 _ = true
 has_syndrome _ NoQ = true
 has_syndrome _ _ = false
 
+-- the parity of the pattern moves from slot to slot
+abbrev pub moves : Pattern → Bool
+moves Plain = false
+moves ParityFirst = false
+moves ParityLast = false
+moves ParityFirst6 = false
+moves _ = true
+
+-- the parity of the pattern may stay for so many rows: for one, or where it moves for up to the longest delay
+abbrev pub has_delay : Pattern → ℕ → Bool
+has_delay pattern delay = nat_eq delay 1 || (moves pattern && (nat_le 1 delay && nat_le delay LONGEST_DELAY))
+
 -- a power of two from 1 to the largest chunk
 unfoldable pub is_chunk : ℕ → Bool
 is_chunk chunk = list_any (λ k. nat_eq chunk (2 ^ k)) (range_with_len 0 MOST_CHUNKS)
@@ -51,11 +63,11 @@ is_chunk chunk = list_any (λ k. nat_eq chunk (2 ^ k)) (range_with_len 0 MOST_CH
 abbrev pub has_members : Level → ℕ → Bool
 has_members level members = nat_le (fewest level) members && nat_le members MOST
 
--- the members, the pattern, the order of Q and the chunk suit the level
+-- the members, the pattern, the order of Q and the chunk suit the level, and the delay the pattern
 abbrev pub is_valid_head : Head → Bool
 is_valid_head head =
     has_members head.level head.members
-    && (has_pattern head.level head.pattern && (has_syndrome head.level head.syndrome && is_chunk head.chunk))
+    && (has_pattern head.level head.pattern && (has_syndrome head.level head.syndrome && (is_chunk head.chunk && has_delay head.pattern head.delay)))
 
 -- the slot at this place holds an image that is not below `images`
 abbrev pub is_absent : ℕ → List (Option ℕ) → ℕ → Bool
@@ -89,15 +101,24 @@ shape_fault geo images =
     else if not (is_chunk geo.head.chunk) then Some (Chunk geo.head.chunk)
     else slots_fault geo.head.level images geo.slots.items (first_absent images geo.slots.items) (first_repeat geo.slots.items)
 
--- the set has a sensible shape over `images` images
+-- the set has a sensible shape over `images` images: no rule on the shape is broken, and the delay suits the pattern
 abbrev pub is_shaped : Geometry → ℕ → Bool
-is_shaped geo images = is_none (shape_fault geo images)
+is_shaped geo images = is_none (shape_fault geo images) && has_delay geo.head.pattern geo.head.delay
 
--- after the shape: the set has a whole row before the image sector `end`
+-- after the rules on the shape: the set has a whole row before the image sector `end`
 abbrev pub row_fault : Geometry → ℕ → Option GeoFault → Option GeoFault
 row_fault geo end (Some fault) = Some fault
 row_fault geo end None = if nat_eq (rows geo.head end) 0 then Some (NoRow geo.head.offset) else None
 
+-- the first broken rule but for that on the delay
+abbrev pub early_fault : Geometry → ℕ → ℕ → Option GeoFault
+early_fault geo images end = row_fault geo end (shape_fault geo images)
+
+-- after all others: the delay suits the pattern
+abbrev pub delay_fault : Head → Option GeoFault → Option GeoFault
+delay_fault head (Some fault) = Some fault
+delay_fault head None = if has_delay head.pattern head.delay then None else Some (Delay head.delay)
+
 -- the first broken rule
 abbrev pub first_fault : Geometry → ℕ → ℕ → Option GeoFault
-first_fault geo images end = row_fault geo end (shape_fault geo images)
+first_fault geo images end = delay_fault geo.head (early_fault geo images end)

@@ -1,5 +1,5 @@
-//! The parameters of a striped array: its level, how parity rotates over the members, in what
-//! order the Q syndrome counts the data, the chunk size, where the data begin on each member,
+//! The parameters of a striped array: its level, how parity rotates over the members and for how many
+//! rows it stays, in what order the Q syndrome counts the data, the chunk size, where the data begin on each member,
 //! and which image stands in which slot.
 //!
 //! The layouts are those of the Linux md driver for RAID 0, 4, 5 and 6 and the DDF layouts of
@@ -19,8 +19,8 @@ mod validity;
 mod wide;
 
 pub use limits::{
-    LARGEST_CHUNK, MOST, MOST_CHUNKS, MOST_LESS_ONE, MOST_LEVELS, MOST_MISSING, MOST_OFFSETS,
-    MOST_PATTERNS, MOST_SYNDROMES, SECTORS_END,
+    LARGEST_CHUNK, LONGEST_DELAY, MOST, MOST_CHUNKS, MOST_DELAYS, MOST_LESS_ONE, MOST_LEVELS,
+    MOST_MISSING, MOST_OFFSETS, MOST_PATTERNS, MOST_SYNDROMES, SECTORS_END,
 };
 pub use places::Placed;
 pub use slots::{count_empty, stands_among};

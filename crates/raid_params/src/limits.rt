@@ -15,6 +15,12 @@ pub const MOST_PATTERNS: usize = 14;
 /// The number of orders of Q, with that of no Q.
 pub const MOST_SYNDROMES: usize = 4;
 
+/// The longest delay: parity stays on its slots for at most so many rows.
+pub const LONGEST_DELAY: u64 = 1024;
+
+/// The most delays in a plan.
+pub const MOST_DELAYS: usize = 16;
+
 /// The most chunk sizes in a plan: all powers of two from 1 to `LARGEST_CHUNK`.
 pub const MOST_CHUNKS: usize = 16;
 

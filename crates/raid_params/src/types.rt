@@ -1,6 +1,7 @@
 //! The types of parameters.
 use crate::limits::{
-    MOST, MOST_CHUNKS, MOST_LESS_ONE, MOST_LEVELS, MOST_OFFSETS, MOST_PATTERNS, MOST_SYNDROMES,
+    MOST, MOST_CHUNKS, MOST_DELAYS, MOST_LESS_ONE, MOST_LEVELS, MOST_OFFSETS, MOST_PATTERNS,
+    MOST_SYNDROMES,
 };
 use arrayvec::ArrayVec;
 
@@ -75,6 +76,9 @@ pub struct Head {
     pub members: u8,
     /// How the parity rotates.
     pub pattern: Pattern,
+    /// For how many rows the parity stays before it moves on: 1 in all layouts of md, mostly 16 with the
+    /// delayed parity of Smart Array controllers.
+    pub delay: u64,
     /// In what order Q counts the data blocks.
     pub syndrome: Syndrome,
     /// The chunk, in sectors.
@@ -126,6 +130,8 @@ pub struct Bounds {
     pub members: ArrayVec<u8, MOST_LESS_ONE>,
     /// The patterns to try.
     pub patterns: ArrayVec<Pattern, MOST_PATTERNS>,
+    /// The delays to try.
+    pub delays: ArrayVec<u64, MOST_DELAYS>,
     /// The orders of Q to try.
     pub syndromes: ArrayVec<Syndrome, MOST_SYNDROMES>,
     /// The chunks to try, in sectors.
@@ -157,4 +163,6 @@ pub enum GeoFault {
     Missing(u8),
     /// No whole row lies between the offset and the end.
     NoRow(u64),
+    /// The delay is none from 1 to `LONGEST_DELAY`, or above 1 where the parity does not move.
+    Delay(u64),
 }

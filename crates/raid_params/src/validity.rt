@@ -2,9 +2,9 @@
 ghost use Rattle.std.specs.Prelude.{◌≡◌, ◌<◌, ◌≤◌, IfSome, MatchResult, Some, None, length, nat_eq};
 ghost use Rattle.std.specs.List.{find, range_with_len};
 ghost use Rattle.raid_params.specs.Size.{redundancy as redundancy_of, rows};
-ghost use Rattle.raid_params.specs.Validity.{first_absent as first_absent_of, first_fault, first_repeat as first_repeat_of, has_members as has_members_of, has_pattern as has_pattern_of, has_syndrome as has_syndrome_of, is_absent as is_absent_at, is_chunk as is_chunk_size, is_met_again as is_met_again_at, is_shaped as is_shaped_over, is_valid_head, shape_fault, slots_fault};
+ghost use Rattle.raid_params.specs.Validity.{first_absent as first_absent_of, first_fault, first_repeat as first_repeat_of, has_members as has_members_of, has_pattern as has_pattern_of, has_syndrome as has_syndrome_of, is_absent as is_absent_at, is_chunk as is_chunk_size, is_met_again as is_met_again_at, is_shaped as is_shaped_over, is_valid_head, moves as moves_of, has_delay as has_delay_of, early_fault, shape_fault, slots_fault};
 
-use crate::limits::{MOST, MOST_CHUNKS};
+use crate::limits::{LONGEST_DELAY, MOST, MOST_CHUNKS};
 use crate::slots::{count_empty, stands_among};
 use crate::types::{GeoFault, Geometry, Head, Level, Pattern, Syndrome};
 
@@ -58,6 +58,25 @@ impl Level {
     }
 }
 
+impl Pattern {
+    /// Whether the parity moves from slot to slot.
+    pub fn moves(&self) -> bool
+        ensures { result ≡ moves_of self.now }
+    {
+        !matches!(
+            self,
+            Pattern::Plain | Pattern::ParityFirst | Pattern::ParityLast | Pattern::ParityFirst6
+        )
+    }
+
+    /// Whether the parity may stay for so many rows: for one, or where it moves for up to `LONGEST_DELAY`.
+    pub fn has_delay(&self, delay: u64) -> bool
+        ensures { result ≡ has_delay_of self.now delay }
+    {
+        delay == 1 || self.moves() && 1 <= delay && delay <= LONGEST_DELAY
+    }
+}
+
 /// Whether the chunk is a power of two from 1 to `LARGEST_CHUNK`.
 pub fn is_chunk(chunk: u64) -> bool
     ensures { result ≡ is_chunk_size chunk }
@@ -66,7 +85,8 @@ pub fn is_chunk(chunk: u64) -> bool
 }
 
 impl Head {
-    /// Whether the members, the pattern, the order of Q and the chunk suit the level.
+    /// Whether the members, the pattern, the order of Q and the chunk suit the level, and the delay the
+    /// pattern.
     pub fn is_valid(&self) -> bool
         ensures { result ≡ is_valid_head self.now }
     {
@@ -74,6 +94,7 @@ impl Head {
             && self.level.has_pattern(self.pattern)
             && self.level.has_syndrome(self.syndrome)
             && is_chunk(self.chunk)
+            && self.pattern.has_delay(self.delay)
     }
 }
 
@@ -83,16 +104,29 @@ impl Geometry {
     pub fn is_shaped(&self, images: u8) -> bool
         ensures { result ≡ is_shaped_over self.now images }
     {
-        self.broken_shape(images).is_none()
+        self.broken_shape(images).is_none() && self.head.pattern.has_delay(self.head.delay)
     }
 
     /// The first broken rule of the set over `images` images, whose members end before the image sector
     /// `end`. The rules, in their order: the number of members, the pattern, the order of Q, the chunk,
-    /// the images that the slots name, that no image stands twice, the number of empty slots, and that
-    /// there is a whole row.
-    #[tactic(auto, using(crate::proofs::Chunks::some_chunk))]
+    /// the images that the slots name, that no image stands twice, the number of empty slots, that there is
+    /// a whole row, and the delay.
     pub fn validate(&self, images: u8, end: u64) -> Result<(), GeoFault>
         ensures { MatchResult result (λ _. first_fault self.now images end ≡ None) (λ fault. first_fault self.now images end ≡ Some fault) }
+    {
+        match self.validate_early(images, end) {
+            Ok(()) if !self.head.pattern.has_delay(self.head.delay) => {
+                Err(GeoFault::Delay(self.head.delay))
+            }
+            early => early,
+        }
+    }
+
+    /// The first broken rule but for that on the delay, which comes after all others: also after those on more
+    /// than a geometry, as on the bases of its images.
+    #[tactic(auto, using(crate::proofs::Chunks::some_chunk))]
+    pub fn validate_early(&self, images: u8, end: u64) -> Result<(), GeoFault>
+        ensures { MatchResult result (λ _. early_fault self.now images end ≡ None) (λ fault. early_fault self.now images end ≡ Some fault) }
     {
         match self.broken_shape(images) {
             Some(fault) => Err(fault),

@@ -35,15 +35,19 @@ impl Wide {
     ghost use Rattle.raid_params.specs.Wide.{has_bases as has_bases_for, wide_fault};
 
     /// The first broken rule of the set over `images` images, whose members end before the image sector `end`:
-    /// first those of the geometry, in their order, then that there are no bases, or one for each image, with each
-    /// image in a slot.
+    /// first those of the geometry but for the delay, in their order, then that there are no bases, or one for each
+    /// image, with each image in a slot, and then the delay.
     pub fn validate(&self, images: u8, end: u64) -> Result<(), WideFault>
         ensures { MatchResult result (λ _. wide_fault self.now images end ≡ None) (λ fault. wide_fault self.now images end ≡ Some fault) }
     {
-        match self.geo.validate(images, end) {
+        let head = &self.geo.head;
+        match self.geo.validate_early(images, end) {
             Err(fault) => Err(WideFault::Geo(fault)),
-            Ok(()) if self.has_bases(images) => Ok(()),
-            Ok(()) => Err(WideFault::Bases(self.bases.len() as u8)),
+            Ok(()) if !self.has_bases(images) => Err(WideFault::Bases(self.bases.len() as u8)),
+            Ok(()) if !head.pattern.has_delay(head.delay) => {
+                Err(WideFault::Geo(GeoFault::Delay(head.delay)))
+            }
+            Ok(()) => Ok(()),
         }
     }
 

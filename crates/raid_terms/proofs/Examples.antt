@@ -30,7 +30,7 @@ c = sector 2 ++ sector 6
 -- row 2 of left-asymmetric level 6 over four members: the first block, P, Q, the second block. The walk
 -- after Q meets the second first
 four_parts : Syndrome → List Part
-four_parts order = map (part_of (record { level = Raid6; members = 4; pattern = La; syndrome = order; chunk = 1; offset = 0 }) 2) (0 ∷ 1 ∷ 2 ∷ 3 ∷ [])
+four_parts order = map (part_of (record { level = Raid6; members = 4; pattern = La; delay = 1; syndrome = order; chunk = 1; offset = 0 }) 2) (0 ∷ 1 ∷ 2 ∷ 3 ∷ [])
 
 after_q : four_parts AfterQ ≡ Block 1 ∷ P ∷ Q ∷ Block 0 ∷ []
 unfolding four_parts item_in
@@ -83,7 +83,7 @@ unsound_with_q = refl
 
 -- the volume of left-symmetric over three members, of two rows of one sector, and the first byte of a lost member
 geo : Geometry
-geo = record { head = record { level = Raid5; members = 3; pattern = Ls; syndrome = NoQ; chunk = 1; offset = 0 }; slots = record { items = Some 0 ∷ Some 1 ∷ Some 2 ∷ [] } }
+geo = record { head = record { level = Raid5; members = 3; pattern = Ls; delay = 1; syndrome = NoQ; chunk = 1; offset = 0 }; slots = record { items = Some 0 ∷ Some 1 ∷ Some 2 ∷ [] } }
 
 four_sectors : volume (a ∷ b ∷ c ∷ []) geo 2 ≡ sector 1 ++ sector 3 ++ sector 6 ++ sector 2
 unfolding a b c sector geo member_sector

@@ -5,7 +5,7 @@ use Rattle.raid_params.specs.declared.types.Head.{Head}
 use Rattle.raid_params.specs.declared.types.Syndrome.{Syndrome}
 use Rattle.raid_params.specs.declared.types.Syndrome.TheVariants.{NoQ, AfterQ, ByData, BySlot}
 use Rattle.raid_params.specs.Size.{data_blocks}
-use Rattle.raid_terms.specs.Role.{HasRole, Item, item_of, double_p, double_q}
+use Rattle.raid_terms.specs.Role.{HasRole, Item, item_of, turn, double_p, double_q}
 
 -- the n slots in the order of the walk that begins after Q and goes round to Q
 abbrev pub walk : ℕ → ℕ → List ℕ
@@ -26,7 +26,7 @@ item_in head row slot = unwrap_or (position (λ i. item_of head row i == slot) (
 -- the exponent of a data slot in a row, in this order: how many data slots the walk meets before it,
 -- the number of its item, or its own number
 abbrev pub exponent_by : Syndrome → Head → ℕ → ℕ → ℕ
-exponent_by AfterQ head row slot = number_after_q head.members (double_p head.pattern head.members row) (double_q head.pattern head.members row) slot
+exponent_by AfterQ head row slot = number_after_q head.members (double_p head.pattern head.members (turn head row)) (double_q head.pattern head.members (turn head row)) slot
 exponent_by ByData head row slot = item_in head row slot
 exponent_by BySlot head row slot = slot
 exponent_by NoQ head row slot = 0

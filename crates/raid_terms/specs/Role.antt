@@ -1,5 +1,5 @@
 -- The roles of a row: which slot holds P, Q and each data item, as the Linux md driver lays them out.
-use Rattle.std.specs.Prelude.{ℕ, ◌≡◌, ◌+◌, ◌-◌, ◌%◌, ◌<◌, ◌==◌, nat_le, if◌then◌else◌}
+use Rattle.std.specs.Prelude.{ℕ, ◌≡◌, ◌+◌, ◌-◌, ◌/◌, ◌%◌, ◌<◌, ◌==◌, nat_le, if◌then◌else◌}
 use Rattle.std.specs.declared.option.Option.{Option}
 use Rattle.std.specs.declared.option.Option.TheVariants.{None, Some}
 use Rattle.raid_params.specs.declared.types.Head.{Head}
@@ -116,17 +116,21 @@ item_at Raid0 pattern n row i = i
 item_at Raid5 pattern n row i = single_item pattern n row i
 item_at Raid6 pattern n row i = double_item pattern n row i
 
+-- the turn of a row, by which its layout goes: parity stays for `delay` rows before it moves on
+abbrev pub turn : Head → ℕ → ℕ
+turn head row = row / head.delay
+
 -- the slot of P in a row
 abbrev pub p_of : Head → ℕ → Option ℕ
-p_of head row = p_at head.level head.pattern head.members row
+p_of head row = p_at head.level head.pattern head.members (turn head row)
 
 -- the slot of Q in a row
 abbrev pub q_of : Head → ℕ → Option ℕ
-q_of head row = q_at head.level head.pattern head.members row
+q_of head row = q_at head.level head.pattern head.members (turn head row)
 
 -- the slot of a data item in a row
 abbrev pub item_of : Head → ℕ → ℕ → ℕ
-item_of head row i = item_at head.level head.pattern head.members row i
+item_of head row i = item_at head.level head.pattern head.members (turn head row) i
 
 -- the slot has the role in the row
 abbrev pub HasRole : Head → ℕ → ℕ → Role → Type 0

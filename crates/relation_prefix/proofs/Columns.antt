@@ -18,7 +18,7 @@ use Rattle.raid_params.specs.declared.types.Part.TheVariants.{Block, P, Q}
 use Rattle.raid_params.specs.declared.types.Pattern.{Pattern}
 use Rattle.raid_terms.specs.Cells.{row_cells}
 use Rattle.raid_terms.specs.Parity.{has_q, in_p, in_q, is_data, is_q, is_sound, is_sound_column}
-use Rattle.raid_terms.specs.Role.{q_at}
+use Rattle.raid_terms.specs.Role.{q_at, turn}
 use Rattle.row_parity.specs.Syndromes.{known_sum}
 use Rattle.row_parity.proofs.Soundness.{sound_where_whole, sound_without_data, sound_without_p, sound_without_q, NotFull}
 use Rattle.relation_prefix.specs.declared.equation.Equation.{Equation}
@@ -60,7 +60,7 @@ level_q Raid6 pattern n row e = refl
 pub q_at_six : (geo : Geometry) (images row : ℕ) → is_shaped geo images ≡ true → geo.head.level ≡ Raid6 → has_q (row_cells geo row) ≡ true
 q_at_six geo images row shaped six =
     let count = count_q geo.head row geo.slots.items (shaped_head geo images shaped) (shaped_slots geo images shaped) in
-    let one = level_q geo.head.level geo.head.pattern geo.head.members row six in
+    let one = level_q geo.head.level geo.head.pattern geo.head.members (turn geo.head row) six in
     counted_any (λ c. is_q c.part) (row_cells geo row) (omega arith)
 
 parity_of : (geo : Geometry) (images row : ℕ) → is_shaped geo images ≡ true → count_by (λ c. not (is_data c.part)) (row_cells geo row) ≡ redundancy geo.head.level
@@ -70,7 +70,7 @@ parity_of geo images row shaped =
     let p = count_p geo.head row geo.slots.items valid long in
     let q = count_q geo.head row geo.slots.items valid long in
     let parity = count_parity (row_cells geo row) in
-    let all = both_numbers geo.head.level geo.head.pattern geo.head.members row in
+    let all = both_numbers geo.head.level geo.head.pattern geo.head.members (turn geo.head row) in
     omega arith
 
 -- fewer are missing than the level survives

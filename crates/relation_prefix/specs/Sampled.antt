@@ -1,5 +1,5 @@
 -- Which prefixes of slot lists some rows let begin a set, by the ties of each.
-use Rattle.std.specs.Prelude.{ℕ, zero, suc, ◌≡◌, ◌+◌, ◌-◌, ◌/◌, ◌<◌, ◌==◌, nat_le, nat_lt, min, Bool, true, false, not, ◌&&◌, ◌||◌, ◌⊎◌, if◌then◌else◌, IsTrue, All, List, [], ◌∷◌, ◌++◌, length, count_by, slice_index, slice_index_or}
+use Rattle.std.specs.Prelude.{ℕ, zero, suc, ◌≡◌, ◌+◌, ◌-◌, ◌/◌, ◌<◌, ◌==◌, nat_le, nat_lt, min, Bool, true, false, not, ◌&&◌, ◌||◌, if◌then◌else◌, IsTrue, All, List, [], ◌∷◌, ◌++◌, length, count_by, slice_index, slice_index_or}
 use Rattle.std.specs.List.{list_all, list_any, range_with_len}
 use Rattle.std.specs.Option.{is_none, option_map_or}
 use Rattle.std.specs.declared.option.Option.{Option}

@@ -12,7 +12,7 @@ use std::test::Fail;
 static USES: [&str; 14] = [
     "usage: reraid COMMAND [NAME=VALUE..] -- [IMAGE..]",
     "  relations [from=ROW] [end=ROW] [step=ROWS] [offsets=A+B..] [form=FORM]",
-    "  survey [levels=LIST] [members=LIST] [patterns=LIST] [syndromes=LIST]",
+    "  survey [levels=LIST] [members=LIST] [patterns=LIST] [delays=LIST]",
     "  list [from=RANK] [size=LINES] [span=RANKS] [pages=PAGES] [form=FORM]",
     "  check set=SET -- IMAGE..  < PLAN",
     "  map set=SET sector=SECTOR [end=END] -- IMAGE..",

@@ -13,7 +13,7 @@ use Rattle.raid_params.specs.declared.types.Geometry.{Geometry}
 use Rattle.raid_params.specs.declared.types.Head.{Head}
 use Rattle.raid_terms.specs.Cells.{cells_from, part_of, row_cells}
 use Rattle.raid_terms.specs.Parity.{IsRow, exponent_in, exponents, has_q, is_p, is_q}
-use Rattle.raid_terms.specs.Role.{p_of, q_of}
+use Rattle.raid_terms.specs.Role.{p_of, q_of, turn}
 use Rattle.member_regions.specs.Members.{IsTestable}
 
 -- the exponents do not depend on which cells are missing
@@ -37,7 +37,7 @@ of_head head row slots others valid long same kept is =
     let q_was = count_q head row slots valid long in
     let one_p = number_few (p_of head row) in
     let one_q = number_few (q_of head row) in
-    let all = both_numbers head.level head.pattern head.members row in
+    let all = both_numbers head.level head.pattern head.members (turn head row) in
     let parity = count_parity (cells_from head row 0 others) in
     let lost = count_missing head row 0 others in
     let had : has_q (cells_from head row 0 others) ≡ true → has_q (cells_from head row 0 slots) ≡ true =

@@ -3,8 +3,8 @@ use Rattle.std.proofs.Common.{ℕ, zero, suc, ◌≡◌, ◌/◌, ◌<◌, Bool,
 use Rattle.address_map.proofs.Heads.{some_chunk, some_data}
 use Rattle.address_map.proofs.Sectors.{sector_below}
 use Rattle.raid_layouts.proofs.Shapes.{shaped_head, shaped_missing}
+use Rattle.raid_params.proofs.Ruled.{wide_shape}
 use Rattle.raid_params.specs.Size.{area, data_blocks, rows, volume_sectors}
-use Rattle.raid_params.specs.Validity.{first_fault, is_shaped, shape_fault}
 use Rattle.raid_params.specs.Wide.{wide_fault}
 use Rattle.raid_params.specs.declared.types.Geometry.{Geometry}
 use Rattle.raid_params.specs.declared.types.Head.{Head}
@@ -19,13 +19,9 @@ use Rattle.virtual_volume.proofs.Ranges.{flat_same}
 use Rattle.rescue_map.specs.Damaged.{damaged, damaged_at, image_sector, is_good, is_lost, known_slot}
 use Rattle.rescue_map.specs.Laws.{AgreeOnGood, GoodSectorsTell, UndamagedIsTheVolume}
 use Rattle.rescue_map.specs.Salvaged.{salvaged_sector, salvaged_sectors}
-use Rattle.rescue_map.proofs.Padding.{no_fault, ruled_shape}
 use Rattle.rescue_map.proofs.Passed.{good_row}
 use Rattle.rescue_map.proofs.Rows.{known_is, unknown_is}
 use Rattle.rescue_text.specs.declared.section.Section.{Section}
-
-shaped_of : (set : Wide) (count end : ℕ) → wide_fault set count end ≡ None → is_shaped set.geo count ≡ true
-shaped_of set count end ruled = ruled_shape (shape_fault set.geo count) set.geo end (no_fault set count (first_fault set.geo count end) ruled)
 
 -- ---- nothing is damaged
 
@@ -41,7 +37,7 @@ whole set t = ap (λ (l : List (Option ℕ)). record { head = set.geo.head; slot
 sector_whole : (images : List (List ℕ)) (set : Wide) (count end v : ℕ) → wide_fault set count end ≡ None → salvaged_sector images [] set v ≡ volume_sector images set.geo v
 unfolding salvaged_sector
 sector_whole images set count end v ruled =
-    let kept : is_lost [] set v ≡ false = good_row [] set v (all_there set (home_sector set.geo.head v) set.geo.slots.items) (shaped_missing set.geo count (shaped_of set count end ruled)) in
+    let kept : is_lost [] set v ≡ false = good_row [] set v (all_there set (home_sector set.geo.head v) set.geo.slots.items) (shaped_missing set.geo count (wide_shape set count end ruled)) in
     ap (λ (b : Bool). cond b (replicate 512 0) (volume_sector images (damaged_at [] set v) v)) kept
     ∙ ap (λ (g : Geometry). volume_sector images g v) (whole set (home_sector set.geo.head v))
 
@@ -100,7 +96,7 @@ sector_agrees : (sections : List Section) (set : Wide) (count end v : ℕ) (one 
     salvaged_sector one sections set v ≡ salvaged_sector other sections set v
 unfolding salvaged_sector
 sector_agrees sections set count end v one other ruled agree below =
-    let valid = shaped_head set.geo count (shaped_of set count end ruled) in
+    let valid = shaped_head set.geo count (wide_shape set count end ruled) in
     let inside : home_sector set.geo.head v < area set.geo.head end = sector_below v set.geo.head.chunk (data_blocks set.geo.head) (rows set.geo.head end) (some_chunk set.geo.head valid) (some_data set.geo.head valid) below in
     ap (λ (l : List ℕ). cond (is_lost sections set v) (replicate 512 0) l)
     (at_home one sections set v ∙ row_agrees sections set end (home_sector set.geo.head v) (home_slot set.geo.head v) one other agree inside ∙ sym (at_home other sections set v))

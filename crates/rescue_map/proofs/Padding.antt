@@ -1,6 +1,5 @@
 -- Sets whose images have bases of their own.
 use Rattle.std.proofs.Common.{ℕ, zero, suc, ◌≡◌, ◌-◌, ◌/◌, ◌<◌, ◌≤◌, ◌^◌, ◌==◌, ◌||◌, ◌&&◌, not, Bool, true, false, List, [], ◌∷◌, length, All, refl, sym, ap, ◌∙◌, subst, arith, Option, Some, None}
-use Rattle.std.specs.Option.{is_none}
 use Rattle.std.specs.Prelude.{nat_eq, if◌then◌else◌}
 use Rattle.std.proofs.lemmas.Bool.Decides.{nat_tests}
 use Rattle.std.proofs.lemmas.List.Elements.{All-cons, All-head, All-tail}
@@ -11,12 +10,12 @@ use Rattle.member_regions.specs.Members.{IsTestable, Reaches}
 use Rattle.image_padding.proofs.Images.{padded_length}
 use Rattle.image_padding.proofs.Within.{reads_within}
 use Rattle.image_padding.specs.Padded.{greatest_base, padded, padded_images, padded_to, seen_padded}
+use Rattle.raid_params.proofs.Ruled.{ruled_row, wide_bases, wide_ruled, wide_shape}
 use Rattle.raid_params.specs.Bases.{leaves_out}
 use Rattle.raid_params.specs.Size.{rows}
-use Rattle.raid_params.specs.Validity.{first_fault, is_shaped, row_fault, shape_fault}
+use Rattle.raid_params.specs.Validity.{first_fault, is_shaped}
 use Rattle.raid_params.specs.Wide.{bases_fault, has_bases, wide_fault}
 use Rattle.raid_params.specs.declared.types.GeoFault.{GeoFault}
-use Rattle.raid_params.specs.declared.types.GeoFault.TheVariants.{NoRow}
 use Rattle.raid_params.specs.declared.types.Geometry.{Geometry}
 use Rattle.raid_params.specs.declared.wide.Wide.{Wide}
 use Rattle.raid_params.specs.declared.wide.WideFault.TheVariants.{Bases}
@@ -26,42 +25,23 @@ use Rattle.rescue_map.proofs.Known.{all_below}
 use Rattle.virtual_volume.specs.Served.{IsServed}
 use Rattle.rescue_map.proofs.Passed.{damage_of}
 
-pub no_fault : (wide : Wide) (images : ℕ) (fault : Option GeoFault) → bases_fault wide images fault ≡ None → fault ≡ None
-no_fault wide images None h = refl
-no_fault wide images (Some fault) h = absurd (cc)
-
-pub ruled_shape : (r : Option GeoFault) (geo : Geometry) (end : ℕ) → row_fault geo end r ≡ None → is_none r ≡ true
-ruled_shape None geo end h = refl
-ruled_shape (Some fault) geo end h = absurd (cc)
-
 pub salvaged_shape : (set : Wide) (end : ℕ) (attached : List Image) → IsSalvaged set end attached → is_shaped set.geo (length attached) ≡ true
-salvaged_shape set end attached s = ruled_shape (shape_fault set.geo (length attached)) set.geo end (no_fault set (length attached) (first_fault set.geo (length attached) end) s.ruled)
+salvaged_shape set end attached s = wide_shape set (length attached) end s.ruled
 
 pub salvaged_testable : (set : Wide) (end : ℕ) (attached : List Image) → IsSalvaged set end attached → IsTestable set.geo
 salvaged_testable set end attached s = record { images = length attached; shaped = salvaged_shape set end attached s }
 
-some_row : (b : Bool) (fault : GeoFault) → (if b then Some fault else None) ≡ None → b ≡ false
-some_row true fault h = absurd (cc)
-some_row false fault h = refl
-
-ruled_rows : (r : Option GeoFault) (geo : Geometry) (end : ℕ) → row_fault geo end r ≡ None → nat_eq (rows geo.head end) 0 ≡ false
-ruled_rows None geo end h = some_row (nat_eq (rows geo.head end) 0) (NoRow geo.head.offset) h
-ruled_rows (Some fault) geo end h = absurd (cc)
-
 no_rows : (left n : ℕ) → left ≡ 0 → left / n ≡ 0
 no_rows left n e = let none : 0 / n ≡ 0 = grind arith in ap (λ (k : ℕ). k / n) e ∙ none
-
-positive : (n : ℕ) → nat_eq n 0 ≡ false → 1 ≤ n
-positive n h = grind (arith, nat_tests)
 
 -- the offset is before the end
 offset_before : (set : Wide) (end : ℕ) (attached : List Image) → IsSalvaged set end attached → set.geo.head.offset < end
 offset_before set end attached s =
-    let some = positive (rows set.geo.head end) (ruled_rows (shape_fault set.geo (length attached)) set.geo end (no_fault set (length attached) (first_fault set.geo (length attached) end) s.ruled)) in
+    let some = ruled_row set.geo (length attached) end (wide_ruled set (length attached) end s.ruled) in
     of_left (end - set.geo.head.offset) refl
   where
     of_left : (left : ℕ) → end - set.geo.head.offset ≡ left → set.geo.head.offset < end
-    of_left zero e = let none = no_rows (end - set.geo.head.offset) set.geo.head.chunk e in let some = positive (rows set.geo.head end) (ruled_rows (shape_fault set.geo (length attached)) set.geo end (no_fault set (length attached) (first_fault set.geo (length attached) end) s.ruled)) in absurd (omega arith)
+    of_left zero e = let none = no_rows (end - set.geo.head.offset) set.geo.head.chunk e in let some = ruled_row set.geo (length attached) end (wide_ruled set (length attached) end s.ruled) in absurd (omega arith)
     of_left (suc left) e = omega arith
 
 test_of : (wide : Wide) (images : ℕ) (fault : Option GeoFault) → bases_fault wide images fault ≡ None → has_bases images wide.geo.slots.items wide.bases.items ≡ true
@@ -77,7 +57,7 @@ each_of n m rest some h = grind (arith, nat_tests)
 
 pub bases_each : (set : Wide) (end : ℕ) (attached : List Image) → IsSalvaged set end attached → 0 < length set.bases.items → length set.bases.items ≡ length attached
 bases_each set end attached s some =
-    each_of (length set.bases.items) (length attached) (not (leaves_out (length attached) set.geo.slots.items)) some (test_of set (length attached) (first_fault set.geo (length attached) end) s.ruled)
+    each_of (length set.bases.items) (length attached) (not (leaves_out (length attached) set.geo.slots.items)) some (test_of set (length attached) None (wide_bases set (length attached) end s.ruled))
 
 first_long : (images : List Image) (end : ℕ) → 0 < length images → All (λ image. end ≤ image.sectors) images → All (λ image. image.sectors < 2 ^ 54) images → end < 2 ^ 54
 first_long [] end some long short = absurd (omega arith)
@@ -136,12 +116,12 @@ same_within reference other bases others old new same =
 -- a set that breaks no rule may be damaged
 pub ruled_damaged : (set : Wide) (end n : ℕ) → wide_fault set n end ≡ None → end < 2 ^ 55 → IsDamaged set end
 ruled_damaged set end n ruled near =
-    damage_of set end (record { images = n; shaped = ruled_shape (shape_fault set.geo n) set.geo end (no_fault set n (first_fault set.geo n end) ruled) }) near
+    damage_of set end (record { images = n; shaped = wide_shape set n end ruled }) near
 
 -- a set that breaks no rule is served, also over padded images
 pub salvaged_served : (set : Wide) (end : ℕ) (attached : List Image) → IsSalvaged set end attached → IsServed set.geo end attached
 salvaged_served set end attached s = record {
-  ruled = no_fault set (length attached) (first_fault set.geo (length attached) end) s.ruled;
+  ruled = wide_ruled set (length attached) end s.ruled;
   offset = (let before = offset_before set end attached s in let near = s.near in omega arith);
   near = s.near;
   long = s.long;
@@ -149,7 +129,7 @@ salvaged_served set end attached s = record {
 
 pub padded_served : (set : Wide) (end : ℕ) (attached : List Image) → IsSalvaged set end attached → IsServed set.geo end (padded_images set.bases.items attached)
 padded_served set end attached s = record {
-  ruled = subst (λ (n : ℕ). first_fault set.geo n end ≡ None) (sym (padded_length (greatest_base set.bases.items) set.bases.items attached)) (no_fault set (length attached) (first_fault set.geo (length attached) end) s.ruled);
+  ruled = subst (λ (n : ℕ). first_fault set.geo n end ≡ None) (sym (padded_length (greatest_base set.bases.items) set.bases.items attached)) (wide_ruled set (length attached) end s.ruled);
   offset = (let before = offset_before set end attached s in let near = s.near in omega arith);
   near = s.near;
   long = longer end (greatest_base set.bases.items) set.bases.items attached s.long;

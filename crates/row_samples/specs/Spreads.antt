@@ -1,4 +1,6 @@
--- Rows that are kept of an offset, spread over it.
+-- Rows that are kept of an offset, spread over it. They serve all chunks and delays, and so go by no turn: a turn is as many rows of
+-- chunks as the delay says, in which parity stays. The parts lie side by side, so that long turns have rows among those that are
+-- wanted, and the place within a part differs from part to part, so that short ones do.
 use Rattle.std.specs.Prelude.{ℕ, ◌≡◌, ◌+◌, ◌*◌, ◌/◌, ◌%◌, ◌⊎◌, ◌<◌, min, max, Bool, true, false, not, ◌&&◌, ◌||◌, nat_le, nat_lt, if◌then◌else◌, List, [], length, slice_index_or}
 use Rattle.member_regions.specs.Regions.{Room}
 use Rattle.member_regions.specs.ImageSums.{room_byte}

@@ -12,14 +12,6 @@ use Rattle.run_ends.specs.declared.stop.Stop.{Stop}
 use Rattle.run_ends.specs.declared.stop.Stop.TheVariants.{Refused, ImageFault, SourceFault, OutFault}
 use Rattle.run_ends.proofs.Printed.{ends_unput, keeps_itself, no_raise}
 
--- a set that breaks no rule has a sensible shape
-pub ruled_shape : (set : Geometry) (images end : ℕ) → first_fault set images end ≡ None → is_shaped set images ≡ true
-ruled_shape set images end e = of_rows (shape_fault set images) e
-  where
-    of_rows : (r : Option GeoFault) → row_fault set end r ≡ None → is_none r ≡ true
-    of_rows None h = refl
-    of_rows (Some fault) h = absurd (cc)
-
 -- an early stop is no fault of the outside
 no_fault : {T : Type 0} (r : Result T Stop) (fault : Stop) → IfErr r IsEarly → (IsEarly fault → ⊥) → IsErrOf r fault → ⊥
 no_fault (Ok x) fault early none e = absurd (cc)

@@ -1,12 +1,14 @@
 -- What a stop says: its status and its line.
-use Rattle.std.specs.Prelude.{ℕ, ◌≡◌, ◌<◌, List, [], ◌∷◌, ◌++◌, codes, decimal, length, IfSome}
+use Rattle.std.specs.Prelude.{ℕ, ◌≡◌, ◌<◌, if◌then◌else◌, List, [], ◌∷◌, ◌++◌, codes, decimal, length, IfSome}
 use Rattle.std.specs.declared.option.Option.{Option}
 use Rattle.std.specs.declared.option.Option.TheVariants.{None, Some}
 use Rattle.raid_params.specs.declared.types.GeoFault.{GeoFault}
-use Rattle.raid_params.specs.declared.types.GeoFault.TheVariants.{Members, Pattern, Syndrome, Chunk, Image, Repeat, Missing, NoRow}
+use Rattle.raid_params.specs.declared.types.GeoFault.TheVariants.{Members, Pattern, Syndrome, Chunk, Image, Repeat, Missing, NoRow, Delay}
 use Rattle.near_mirror.specs.declared.types.NearRule.{NearRule}
 use Rattle.near_mirror.specs.declared.types.NearRule.TheVariants.{Members as NearMembers, Chunk as NearChunk, Image as NearImage, Repeat as NearRepeat, Missing as NearMissing, NoRow as NearNoRow, NoCopy as NearNoCopy}
 use Rattle.raid_params.specs.Places.{pattern_place, syndrome_place}
+use Rattle.raid_params.specs.Validity.{has_delay}
+use Rattle.raid_params.specs.declared.types.Head.{Head}
 use Rattle.run_ends.specs.declared.agreement.Kind.{Kind}
 use Rattle.run_ends.specs.declared.agreement.Kind.TheVariants.{Count, Length, End, Offsets, Rows, Long}
 use Rattle.run_ends.specs.declared.stop.Refusal.{Refusal}
@@ -14,7 +16,8 @@ use Rattle.run_ends.specs.declared.stop.Refusal.TheVariants.{Word, PlanLine, Pla
 use Rattle.run_ends.specs.declared.stop.Stop.{Stop}
 use Rattle.run_ends.specs.declared.stop.Stop.TheVariants.{Refused, ImageFault, SourceFault, OutFault, OutOfMemory}
 
--- the number of a set rule, in the order of the rules
+-- the number of a set rule. The delay is looked at after all else, also after what a command asks of its set beside these
+-- rules, which has the numbers from 9 to 12
 abbrev pub rule_of : GeoFault → ℕ
 rule_of (Members n) = 1
 rule_of (Pattern p) = 2
@@ -24,6 +27,7 @@ rule_of (Image n) = 5
 rule_of (Repeat n) = 6
 rule_of (Missing n) = 7
 rule_of (NoRow n) = 8
+rule_of (Delay n) = 13
 
 -- the value that breaks it; a pattern and an order of Q by their places among their kind, from 0
 abbrev pub value_of : GeoFault → ℕ
@@ -35,6 +39,7 @@ value_of (Image n) = n
 value_of (Repeat n) = n
 value_of (Missing n) = n
 value_of (NoRow n) = n
+value_of (Delay n) = n
 
 -- the number of a rule of mirrors, in the order of these rules, and the value that breaks it
 abbrev pub near_rule_of : NearRule → ℕ
@@ -88,6 +93,10 @@ refusal_notice (ArraySectors sectors) = (7, rule_line 10 sectors)
 refusal_notice (VolumeSectors sectors) = (7, rule_line 11 sectors)
 refusal_notice (Bases count) = (7, rule_line 12 count)
 refusal_notice (Sector fault) = (8, codes "reraid: sector " ++ decimal fault.sector ++ codes " of " ++ decimal fault.size ++ codes "\n")
+
+-- a delay that does not suit the pattern is refused
+abbrev pub delay_refusal : Head → Option Refusal
+delay_refusal head = if has_delay head.pattern head.delay then None else Some (Set (Delay head.delay))
 
 -- the status with which the program ends at a stop, and its line on the notes
 abbrev pub notice_of : Stop → ℕ × List ℕ

@@ -269,7 +269,7 @@ fn push_number(line: &mut ArrayString<LINE>, number: u64)
     line.push_str(buffer.format(number));
 }
 
-/// The number of a broken rule, in the order of the rules.
+/// The number of a broken rule.
 fn rule(fault: &GeoFault) -> u8
     ensures { result ≡ rule_of fault.now }
 {
@@ -282,6 +282,7 @@ fn rule(fault: &GeoFault) -> u8
         GeoFault::Repeat(_) => 6,
         GeoFault::Missing(_) => 7,
         GeoFault::NoRow(_) => 8,
+        GeoFault::Delay(_) => 13,
     }
 }
 
@@ -296,7 +297,7 @@ fn value(fault: &GeoFault) -> u64
         | GeoFault::Missing(number) => *number as u64,
         GeoFault::Pattern(pattern) => pattern.place(),
         GeoFault::Syndrome(syndrome) => syndrome.place(),
-        GeoFault::Chunk(number) | GeoFault::NoRow(number) => *number,
+        GeoFault::Chunk(number) | GeoFault::NoRow(number) | GeoFault::Delay(number) => *number,
     }
 }
 

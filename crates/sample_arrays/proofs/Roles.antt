@@ -11,7 +11,7 @@ use Rattle.raid_params.specs.declared.types.Level.TheVariants.{Raid0, Raid5, Rai
 use Rattle.raid_params.specs.declared.types.Pattern.{Pattern}
 use Rattle.raid_terms.specs.Cells.{stands_in}
 use Rattle.raid_terms.specs.Exponent.{item_in}
-use Rattle.raid_terms.specs.Role.{HasRole, Item, item_of, p_of, q_at, q_of}
+use Rattle.raid_terms.specs.Role.{HasRole, Item, item_of, p_of, q_at, q_of, turn}
 use Rattle.sample_arrays.specs.Arrays.{member_sector, p_sector, q_sector, row_sector}
 
 -- which of three it is
@@ -56,4 +56,4 @@ level_at Raid5 pattern n row slot e = absurd (cc)
 level_at Raid6 pattern n row slot e = refl
 
 pub level_of_q : (head : Head) (row slot : ℕ) → q_of head row ≡ Some slot → head.level ≡ Raid6
-level_of_q head row slot e = level_at head.level head.pattern head.members row slot e
+level_of_q head row slot e = level_at head.level head.pattern head.members (turn head row) slot e

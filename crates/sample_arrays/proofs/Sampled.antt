@@ -10,8 +10,9 @@ use Rattle.address_map.proofs.Heads.{few_data, whole_below}
 use Rattle.member_regions.specs.Members.{held}
 use Rattle.raid_layouts.proofs.Levels.{at_most, enough}
 use Rattle.raid_layouts.proofs.Shapes.{shaped_head, shaped_slots}
+use Rattle.raid_params.proofs.Ruled.{ruled_shape}
 use Rattle.raid_params.specs.Size.{area, data_blocks, volume_sectors}
-use Rattle.raid_params.specs.Validity.{first_fault, is_shaped, is_valid_head, row_fault, shape_fault}
+use Rattle.raid_params.specs.Validity.{first_fault, is_shaped, is_valid_head}
 use Rattle.image_source.specs.Memory.{told_bytes}
 use Rattle.raid_params.specs.declared.types.GeoFault.{GeoFault}
 use Rattle.raid_params.specs.declared.types.Geometry.{Geometry}
@@ -49,14 +50,6 @@ one_long_more number geo rows xfs n before long told =
     subst (λ (files : List (List ℕ × List ℕ)). All P files) (sym (one_sampled_more number geo rows xfs n))
     (All-append P (sampled_front number geo rows xfs n) (last ∷ []) before (All-cons P last [] (record { long = long; told = told }) (All-nil P)))
 
--- a set that keeps the rules has a sensible shape
-shape_of : (r : Option GeoFault) (geo : Geometry) (end : ℕ) → row_fault geo end r ≡ None → is_none r ≡ true
-shape_of None geo end h = refl
-shape_of (Some fault) geo end h = absurd (cc)
-
-pub ruled : (geo : Geometry) (images end : ℕ) → first_fault geo images end ≡ None → is_shaped geo images ≡ true
-ruled geo images end e = shape_of (shape_fault geo images) geo end e
-
 -- the end of a set that keeps the rules and is not too large
 few_sectors : (members end : ℕ) → 2 ≤ members → members * end ≤ 2097152 → end ≤ 1048576
 few_sectors members end some most =
@@ -66,7 +59,7 @@ few_sectors members end some most =
 pub near_end : (geo : Geometry) (rows : ℕ) → first_fault geo (held geo.slots.items) (end_of geo.head rows) ≡ None → geo.head.members * end_of geo.head rows ≤ 2097152 →
     end_of geo.head rows < 2 ^ 21
 near_end geo rows kept most =
-    let head = shaped_head geo (held geo.slots.items) (ruled geo (held geo.slots.items) (end_of geo.head rows) kept) in
+    let head = shaped_head geo (held geo.slots.items) (ruled_shape geo (held geo.slots.items) (end_of geo.head rows) kept) in
     let some = enough geo.head head in
     let few = few_sectors geo.head.members (end_of geo.head rows) (omega arith) most in
     omega arith

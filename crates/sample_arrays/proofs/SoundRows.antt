@@ -9,6 +9,7 @@ use Rattle.row_parity.proofs.Columns.{holds}
 use Rattle.row_parity.proofs.Members.{In, In-flat_map, In-map, In-range, any_passes}
 use Rattle.raid_layouts.proofs.Counts.{any_counted, count_cons, count_p, count_q, number as places}
 use Rattle.raid_layouts.proofs.Shapes.{shaped_head, shaped_slots}
+use Rattle.raid_params.proofs.Ruled.{ruled_shape}
 use Rattle.raid_params.specs.Validity.{is_valid_head}
 use Rattle.raid_params.specs.declared.types.Cell.{Cell}
 use Rattle.raid_params.specs.declared.types.Head.{Head}
@@ -18,7 +19,6 @@ use Rattle.raid_terms.specs.Role.{p_of, q_of}
 use Rattle.sample_arrays.proofs.Bytes.{sector_is}
 use Rattle.sample_arrays.proofs.Found.{slot_read}
 use Rattle.sample_arrays.proofs.RowSums.{IsVolume, column_from, p_total, q_total, slot_byte, slot_fits}
-use Rattle.sample_arrays.proofs.Sampled.{ruled}
 use Rattle.sample_arrays.specs.Arrays.{end_of, generated}
 use Rattle.sample_arrays.specs.Laws.{NoGeneratedRowIsUnsound, RowsOfGeneratedArraysAreSound, sampled_bytes}
 
@@ -76,7 +76,7 @@ all_of f a (suc n) h = and_from (f a) (list_all f (range_with_len (a + 1) n)) (h
 pub sound_rows : RowsOfGeneratedArraysAreSound
 unfolding is_sound
 sound_rows number geo rows xfs t kept inside =
-    let shaped = ruled geo (held geo.slots.items) (end_of geo.head rows) kept in
+    let shaped = ruled_shape geo (held geo.slots.items) (end_of geo.head rows) kept in
     let volume : ℕ → List ℕ = generated number geo.head rows xfs in
     let images : List (List ℕ) = sampled_bytes number geo rows xfs in
     let is : IsVolume volume = λ v. sector_is number _ v in

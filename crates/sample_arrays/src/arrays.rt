@@ -28,7 +28,7 @@ pub const LEAST_MARKED: u64 = 512;
 /// The images of an array of `rows` rows of chunks, one for each filled slot of the set: image `j` is the member
 /// in the slot that names it, and its name is its number. The words of the volume are made from `number`, and
 /// `xfs` says whether the volume has the groups of an XFS. Nothing is attached, and no call is listed to fail.
-#[tactic(auto, using(crate::proofs::Sampled::none_sampled, crate::proofs::Sampled::one_sampled_more, crate::proofs::Sampled::none_long, crate::proofs::Sampled::one_long_more, crate::proofs::Sampled::near_end, crate::proofs::Sampled::few_slots, raid_layouts::proofs::Shapes::shaped_head, raid_layouts::proofs::Shapes::shaped_slots, crate::proofs::Sampled::ruled))]
+#[tactic(auto, using(crate::proofs::Sampled::none_sampled, crate::proofs::Sampled::one_sampled_more, crate::proofs::Sampled::none_long, crate::proofs::Sampled::one_long_more, crate::proofs::Sampled::near_end, crate::proofs::Sampled::few_slots, raid_layouts::proofs::Shapes::shaped_head, raid_layouts::proofs::Shapes::shaped_slots, raid_params::proofs::Ruled::ruled_shape))]
 pub fn sample(
     alloc: Global,
     number: u64,

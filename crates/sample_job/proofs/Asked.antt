@@ -1,5 +1,5 @@
 -- What the survey of a generated array is asked for.
-use Rattle.std.proofs.Common.{◌≡◌, ℕ, ◌+◌, ◌*◌, ◌<◌, ◌≤◌, ◌^◌, Bool, cond, true, false, List, [], ◌∷◌, length, All, IfSome, None, Some, Option, refl, sym, ap, subst, arith}
+use Rattle.std.proofs.Common.{◌≡◌, ℕ, ◌+◌, ◌*◌, ◌<◌, ◌≤◌, ◌^◌, Bool, cond, true, false, List, [], ◌∷◌, length, All, IfSome, None, Some, Option, refl, sym, ap, subst, arith, lit≤, inl, inr, IsTrue}
 use Rattle.std.proofs.lemmas.List.Elements.{All-cons, All-nil, All-weaker}
 use Rattle.std.proofs.lemmas.List.Sums.{sum_by-cons}
 use Rattle.std.specs.Option.{is_some}
@@ -8,15 +8,21 @@ use Rattle.command_words.specs.Commands.{plain_survey}
 use Rattle.plan_text.specs.Parts.{AreMembers}
 use Rattle.outside.specs.Seen.{Image}
 use Rattle.member_regions.specs.Members.{held}
-use Rattle.raid_layouts.proofs.Levels.{at_most, enough}
+use Rattle.raid_layouts.proofs.Levels.{at_most, enough, some_delay}
 use Rattle.raid_layouts.proofs.Shapes.{shaped_head, shaped_missing, shaped_slots}
 use Rattle.raid_params.specs.Size.{redundancy}
 use Rattle.raid_params.specs.Slots.{empties}
-use Rattle.raid_params.specs.Validity.{fewest, first_fault, is_shaped}
+use Rattle.raid_params.specs.Validity.{fewest, first_fault, has_delay, has_members, has_pattern, has_syndrome, is_chunk, is_shaped, is_valid_head, moves}
+use Rattle.raid_params.specs.declared.limits.TheConstants.{LONGEST_DELAY}
+use Rattle.raid_params.specs.declared.types.Head.{Head}
+use Rattle.std.proofs.lemmas.Bool.{and_parts, eqb-true, leb-true, or_cases}
+use Rattle.raid_params.specs.declared.types.Pattern.{Pattern}
+use Rattle.std.specs.Prelude.{nat_eq, nat_le, ◌&&◌}
 use Rattle.raid_params.specs.declared.types.Geometry.{Geometry}
 use Rattle.raid_params.specs.declared.types.Level.{Level}
 use Rattle.raid_params.specs.declared.types.Level.TheVariants.{Raid0, Raid5, Raid6}
-use Rattle.sample_arrays.proofs.Sampled.{near_end, ruled}
+use Rattle.raid_params.proofs.Ruled.{ruled_shape}
+use Rattle.sample_arrays.proofs.Sampled.{near_end}
 use Rattle.sample_arrays.specs.Arrays.{end_of, sampled, IsFile}
 use Rattle.search_plan.specs.Places.{level_place}
 use Rattle.search_plan.specs.Plans.{AreBounds, AreRising}
@@ -61,14 +67,32 @@ few_held set images shaped =
     let few = at_most set.head (shaped_head set images shaped) in
     omega arith
 
+-- parity stays for a number of rows that a plan may have
+short_delay : (head : Head) → IsTrue (is_valid_head head) → head.delay ≤ LONGEST_DELAY
+short_delay head h =
+    let members = and_parts (has_members head.level head.members) _ h in
+    let pattern = and_parts (has_pattern head.level head.pattern) _ members.1 in
+    let syndrome = and_parts (has_syndrome head.level head.syndrome) _ pattern.1 in
+    let chunk = and_parts (is_chunk head.chunk) _ syndrome.1 in
+    told head.pattern head.delay chunk.1
+  where
+    told : (pattern : Pattern) (delay : ℕ) → has_delay pattern delay ≡ true → delay ≤ LONGEST_DELAY
+    told pattern delay suits = elim (or_cases (nat_eq delay 1) (moves pattern && (nat_le 1 delay && nat_le delay LONGEST_DELAY)) suits) [
+      | inl one ↦ (let is : delay ≡ 1 = eqb-true delay 1 one in omega arith)
+      | inr more ↦ leb-true delay LONGEST_DELAY (and_parts (nat_le 1 delay) (nat_le delay LONGEST_DELAY) (and_parts (moves pattern) _ more).1).1
+    ]
+
 -- the parameters to try
-bounds_are : (asked : AreBounds (record plain_survey.bounds { members = record { items = 2 ∷ [] } })) (level : Level) (members missing : ℕ) → 2 ≤ members → members ≤ 24 → missing ≤ 2 →
-    AreBounds (record plain_survey.bounds { levels = record { items = level ∷ [] }; members = record { items = members ∷ [] }; missing = missing })
-bounds_are asked level members missing some most few = record {
+bounds_are : (asked : AreBounds (record plain_survey.bounds { members = record { items = 2 ∷ [] } })) (level : Level) (members delay missing : ℕ) → 2 ≤ members → members ≤ 24 → 1 ≤ delay → delay ≤ LONGEST_DELAY → missing ≤ 2 →
+    AreBounds (record plain_survey.bounds { levels = record { items = level ∷ [] }; members = record { items = members ∷ [] }; delays = record { items = delay ∷ [] }; missing = missing })
+bounds_are asked level members delay missing some most moves stays few = record {
   levels = one_rises (level_place level);
   members = one_rises members;
   few_members = All-cons (λ n. (2 ≤ n) × (n ≤ 24)) members [] (some, most) (All-nil (λ n. (2 ≤ n) × (n ≤ 24)));
   patterns = asked.patterns;
+  delays = one_rises delay;
+  few_delays = lit≤ tt;
+  short_delays = All-cons (λ n. (1 ≤ n) × (n ≤ LONGEST_DELAY)) delay [] (moves, stays) (All-nil (λ n. (1 ≤ n) × (n ≤ LONGEST_DELAY)));
   syndromes = asked.syndromes;
   chunks = asked.chunks;
   powers = asked.powers;
@@ -103,7 +127,7 @@ ask_is set end shaped near =
     let most = at_most set.head head in
     let window = window_is plain_survey.window end near plain_asked.window in
     record {
-      bounds = bounds_are (plain_asked.bounds (record { items = 2 ∷ [] }) two_are) set.head.level set.head.members (empties set.slots.items) (omega arith) most (omega arith);
+      bounds = bounds_are (plain_asked.bounds (record { items = 2 ∷ [] }) two_are) set.head.level set.head.members set.head.delay (empties set.slots.items) (omega arith) most (some_delay set.head head) (short_delay set.head head) (omega arith);
       limits = record { badrows = plain_asked.badrows; some_window = window.0; window = window.1 };
       tests = plain_asked.tests;
       unit = plain_asked.unit;
@@ -114,7 +138,7 @@ pub surveyable : (number : ℕ) (set : Geometry) (rows : ℕ) (xfs : Bool) (end 
     end ≡ end_of set.head rows → attached ≡ sampled_images number set rows xfs → IsSurveyable (sample_ask set end) attached
 unfolding sample_ask
 surveyable number set rows xfs end attached kept size long is there =
-    let shaped = ruled set (held set.slots.items) (end_of set.head rows) kept in
+    let shaped = ruled_shape set (held set.slots.items) (end_of set.head rows) kept in
     let near = near_end set rows kept size in
     let count = image_count number set rows xfs in
     let same = ap (λ (images : List Image). length images) there in

@@ -9,7 +9,7 @@ use Rattle.outside.specs.Seen.{Image}
 use Rattle.member_regions.specs.Members.{held}
 use Rattle.raid_params.specs.Size.{volume_sectors}
 use Rattle.raid_params.specs.Slots.{empties}
-use Rattle.raid_params.specs.Validity.{first_fault}
+use Rattle.raid_params.specs.Validity.{early_fault}
 use Rattle.raid_params.specs.declared.types.Geometry.{Geometry}
 use Rattle.raid_params.specs.declared.wide.Wide.{Wide}
 use Rattle.search_terms.specs.Page.{page_next, page_ranks}
@@ -24,7 +24,7 @@ use Rattle.sample_arrays.specs.Arrays.{end_of, sampled}
 use Rattle.sample_arrays.specs.Laws.{sampled_bytes}
 use Rattle.run_ends.specs.Jobs.{Job, imageless}
 use Rattle.run_ends.specs.Printing.{share_line}
-use Rattle.run_ends.specs.Stops.{first_of}
+use Rattle.run_ends.specs.Stops.{delay_refusal, first_of}
 use Rattle.run_ends.specs.declared.stop.Refusal.{Refusal}
 use Rattle.run_ends.specs.declared.stop.Refusal.TheVariants.{Set, Many, ArraySectors, VolumeSectors, Bases}
 
@@ -32,14 +32,15 @@ use Rattle.run_ends.specs.declared.stop.Refusal.TheVariants.{Set, Many, ArraySec
 unfoldable pub sampled_images : ℕ → Geometry → ℕ → Bool → List Image
 sampled_images number set rows xfs = map (λ file. image_of file.1) (sampled number set rows xfs)
 
--- what the survey is asked for: what `survey` asks for without operands, but for the level, the number of members
--- and the number of those that are missing
+-- what the survey is asked for: what `survey` asks for without operands, but for the level, the number of members,
+-- the delay and the number of members that are missing
 unfoldable pub sample_ask : Geometry → ℕ → Ask
 sample_ask set end =
     ask_of (record plain_survey {
       bounds = record plain_survey.bounds {
         levels = record { items = set.head.level ∷ [] };
         members = record { items = set.head.members ∷ [] };
+        delays = record { items = set.head.delay ∷ [] };
         missing = empties set.slots.items;
       };
     }) (held set.slots.items) end
@@ -67,14 +68,15 @@ volume_refusal set rows xfs =
 abbrev pub bases_refusal : List ℕ → Option Refusal
 bases_refusal bases = if length bases == 0 then None else Some (Bases (length bases))
 
--- the refusals before the array is made: the rules of a set, over as many images as it has filled slots, the two of a
--- generated array, and that of bases
+-- the refusals before the array is made: the rules of a set but for the delay, over as many images as it has filled slots, the two of a
+-- generated array, that of bases, and that of the delay
 unfoldable pub array_refusals : Wide → ℕ → Bool → Option Refusal
 array_refusals set rows xfs =
-    first_of (option_map (λ fault. Set fault) (first_fault set.geo (held set.geo.slots.items) (end_of set.geo.head rows))
+    first_of (option_map (λ fault. Set fault) (early_fault set.geo (held set.geo.slots.items) (end_of set.geo.head rows))
     ∷ array_refusal set.geo rows
     ∷ volume_refusal set.geo rows xfs
     ∷ bases_refusal set.bases.items
+    ∷ delay_refusal set.geo.head
     ∷ [])
 
 -- the first refusal of `sample`

@@ -1,12 +1,12 @@
 //! The command `sample`.
-ghost use Rattle.std.specs.Prelude.{◌≡◌, ◌<◌, ◌≤◌, ◌*◌, ◌-◌, ◌^◌, ◌++◌, false, All, IfErr, IfOk, IfSome, IsTrue, None, OnOk, Some, sum_by, ℕ, [], ◌∷◌, decimal, length, map, nat_eq};
+ghost use Rattle.std.specs.Prelude.{◌≡◌, ◌<◌, ◌≤◌, ◌*◌, ◌-◌, ◌^◌, ◌++◌, false, All, IfErr, IfOk, IfSome, IsTrue, MatchResult, None, OnOk, Some, sum_by, ℕ, [], ◌∷◌, decimal, length, map, nat_eq};
 ghost use Rattle.std.specs.List.{list_any};
 ghost use Rattle.outside.specs.Attached.{told_all};
 ghost use Rattle.image_source.specs.Memory.{number_of};
 ghost use Rattle.member_regions.specs.Members.{held as held_in};
 ghost use Rattle.value_text.specs.SetText.{HasWord};
 ghost use Rattle.raid_params.specs.Size.{volume_sectors as volume_sectors_of};
-ghost use Rattle.raid_params.specs.Validity.{first_fault};
+ghost use Rattle.raid_params.specs.Validity.{early_fault, first_fault};
 ghost use Rattle.raid_params.specs.declared.limits.TheConstants.{MOST};
 ghost use Rattle.search_plan.specs.Plans.{IsPlan, AgreeWith};
 ghost use Rattle.plan_sets.specs.Sets.{rank_of, total_of};
@@ -16,7 +16,7 @@ ghost use Rattle.survey_job.specs.Surveying.{survey_plan};
 ghost use Rattle.outside.specs.Seen.{Seen};
 ghost use Rattle.outside.specs.Streams.{Stream};
 ghost use Rattle.run_ends.specs.Jobs.{Does, Named, Refuses, around, stream};
-ghost use Rattle.run_ends.specs.Stops.{IsEarly};
+ghost use Rattle.run_ends.specs.Stops.{IsEarly, delay_refusal};
 ghost use Rattle.sample_job.specs.Sampling.{many_refusal, array_refusals, found_line, found_text as found_text_of, is_among, number_line, sample_ask, sample_job, sample_output, sample_plan, sample_refusal, sampled_images};
 ghost use Rattle.sample_arrays.specs.Arrays.{end_of, sampled, IsFile};
 ghost use Rattle.sample_job.specs.Own.{seen_of_own};
@@ -32,7 +32,7 @@ use itoa::Buffer;
 use landmark_rules::Group;
 use outside::{Images, MOST_ATTACHED, Memory, Sink};
 use plan_text::{Text, add_number};
-use raid_params::{Bounds, Geometry, Wide};
+use raid_params::{Bounds, GeoFault, Geometry, Head, Wide};
 use run_ends::{Refusal, Stop, add_share, print};
 use sample_arrays::{LEAST_MARKED, MOST_SAMPLED, count_held};
 use search_plan::Plan;
@@ -103,7 +103,7 @@ fn answer<R: Threads + Sync, G: Gate + Sync>(
 }
 
 /// The image sector after the last one of the members, where the array may be made.
-#[tactic(auto, using(crate::proofs::Refusals::set_refused, crate::proofs::Refusals::array_refused, crate::proofs::Refusals::volume_refused, crate::proofs::Refusals::bases_refused, crate::proofs::Refusals::array_allowed, crate::proofs::Refusals::near_offset, sample_arrays::proofs::Sampled::ruled, sample_arrays::proofs::Sampled::near_end, raid_layouts::proofs::Shapes::shaped_head))]
+#[tactic(auto, using(crate::proofs::Refusals::set_refused, crate::proofs::Refusals::array_refused, crate::proofs::Refusals::volume_refused, crate::proofs::Refusals::bases_refused, crate::proofs::Refusals::delay_refused, crate::proofs::Refusals::array_allowed, crate::proofs::Refusals::near_offset, crate::proofs::Refusals::once_near, crate::proofs::Refusals::all_kept))]
 fn array_end(set: &Wide, rows: u64, xfs: bool) -> Result<u64, Refusal>
     requires set { HasWord set.now }
     requires most { rows ≤ 65536 }
@@ -115,21 +115,49 @@ fn array_end(set: &Wide, rows: u64, xfs: bool) -> Result<u64, Refusal>
     ensures refused { IfErr result (λ refusal. array_refusals set.now rows xfs ≡ Some refusal) }
 {
     let end = set.geo.head.offset + rows * set.geo.head.chunk;
-    if let Err(fault) = set.geo.validate(count_held(&set.geo.slots), end) {
+    if let Err(fault) = set.geo.validate_early(count_held(&set.geo.slots), end) {
         return Err(Refusal::Set(fault));
     }
     let sectors = set.geo.head.members as u64 * end;
     if sectors > MOST_SAMPLED {
         return Err(Refusal::ArraySectors(sectors));
     }
-    let volume = volume_sectors(&set.geo.head, end);
+    let volume = volume_of(&set.geo, end);
     if xfs && volume < LEAST_MARKED {
         return Err(Refusal::VolumeSectors(volume));
     }
     if !set.bases.is_empty() {
         return Err(Refusal::Bases(set.bases.len() as u8));
     }
-    Ok(end)
+    match delay_kept(&set.geo.head) {
+        Ok(()) => Ok(end),
+        Err(refusal) => Err(refusal),
+    }
+}
+
+/// The sectors of the volume of a set that breaks no rule but maybe that on its delay, on which they do not depend.
+#[tactic(auto, using(crate::proofs::Refusals::once_valid))]
+fn volume_of(set: &Geometry, end: u64) -> u64
+    requires kept { early_fault set.now (held_in set.now.slots.items) end ≡ None }
+    requires end { end < 2 ^ 55 }
+    ensures { result ≡ volume_sectors_of set.now.head end }
+{
+    let head = Head {
+        delay: 1,
+        ..set.head
+    };
+    volume_sectors(&head, end)
+}
+
+/// The refusal of a delay that does not suit the pattern.
+fn delay_kept(head: &Head) -> Result<(), Refusal>
+    ensures { MatchResult result (λ _. delay_refusal head.now ≡ None) (λ refusal. delay_refusal head.now ≡ Some refusal) }
+{
+    if head.pattern.has_delay(head.delay) {
+        Ok(())
+    } else {
+        Err(Refusal::Set(GeoFault::Delay(head.delay)))
+    }
 }
 
 /// The text of `sample` of an array that may be made, or why there is none.
@@ -158,7 +186,7 @@ fn array_text<R: Threads + Sync, G: Gate + Sync>(
 }
 
 /// The images of the array, attached in their order.
-#[tactic(auto, using(sample_arrays::proofs::Sampled::ruled, sample_arrays::proofs::Sampled::few_slots))]
+#[tactic(auto, using(raid_params::proofs::Ruled::ruled_shape, sample_arrays::proofs::Sampled::few_slots))]
 fn array_images(
     alloc: Global,
     number: u64,
@@ -192,7 +220,7 @@ fn attach(images: &mut MemImages, number: u8)
     images.attach(buffer.format(number)).unwrap();
 }
 
-/// What the survey is asked for: all that `survey` asks for without operands, but for the level and the numbers of
+/// What the survey is asked for: all that `survey` asks for without operands, but for the level, the delay and the numbers of
 /// members and of missing ones, which are the set's.
 #[tactic(auto, using(crate::proofs::Asked::all_places), unfolding(crate::specs::Sampling::sample_ask))]
 fn ask_for(set: &Geometry, end: u64) -> Ask
@@ -204,10 +232,13 @@ fn ask_for(set: &Geometry, end: u64) -> Ask
     levels.push(set.head.level);
     let mut members = ArrayVec::new();
     members.push(set.head.members);
+    let mut delays = ArrayVec::new();
+    delays.push(set.head.delay);
     let images = count_held(&set.slots);
     let bounds = Bounds {
         levels,
         members,
+        delays,
         missing: set.slots.len() as u8 - images,
         ..plain.bounds
     };

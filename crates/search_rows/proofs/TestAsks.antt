@@ -18,14 +18,17 @@ one_rises xs x is = rw is (record { some = omega arith; rising = λ k h. absurd 
 one_each : (P : ℕ → Type 0) (xs : List ℕ) (x : ℕ) → xs ≡ x ∷ [] → P x → All P xs
 one_each P xs x is here = rw is (All-cons P x [] here (All-nil P))
 
-pub bounds_are : (b : Bounds) (offset : ℕ) → b.levels.items ≡ Raid0 ∷ [] → b.members.items ≡ 2 ∷ [] → b.patterns.items ≡ Plain ∷ [] → b.syndromes.items ≡ NoQ ∷ [] → b.chunks.items ≡ 8 ∷ [] → b.offsets.items ≡ offset ∷ [] →
+pub bounds_are : (b : Bounds) (offset : ℕ) → b.levels.items ≡ Raid0 ∷ [] → b.members.items ≡ 2 ∷ [] → b.patterns.items ≡ Plain ∷ [] → b.delays.items ≡ 1 ∷ [] → b.syndromes.items ≡ NoQ ∷ [] → b.chunks.items ≡ 8 ∷ [] → b.offsets.items ≡ offset ∷ [] →
     b.missing ≡ 0 → b.foreign ≡ 0 → offset < 2 ^ 55 → AreBounds b
 unfolding is_chunk
-bounds_are b offset levels members patterns syndromes chunks offsets missing foreign near = record {
+bounds_are b offset levels members patterns delays syndromes chunks offsets missing foreign near = record {
   levels = one_rises (map level_place b.levels.items) 0 (ap (map level_place) levels);
   members = one_rises b.members.items 2 members;
   few_members = one_each (λ n. (2 ≤ n) × (n ≤ 24)) b.members.items 2 members (omega arith, omega arith);
   patterns = one_rises (map pattern_place b.patterns.items) 0 (ap (map pattern_place) patterns);
+  delays = one_rises b.delays.items 1 delays;
+  few_delays = omega (arith, ap length delays);
+  short_delays = one_each (λ n. (1 ≤ n) × (n ≤ 1024)) b.delays.items 1 delays (omega arith, omega arith);
   syndromes = one_rises (map syndrome_place b.syndromes.items) 0 (ap (map syndrome_place) syndromes);
   chunks = one_rises b.chunks.items 8 chunks;
   powers = one_each (λ chunk. is_chunk chunk ≡ true) b.chunks.items 8 chunks refl;

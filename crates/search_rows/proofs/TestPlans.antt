@@ -1,5 +1,5 @@
 -- Plans of the tests: a test of each rule, and images of their lengths.
-use Rattle.std.proofs.Common.{ℕ, zero, suc, ◌≡◌, ◌<◌, ◌≤◌, ◌+◌, ◌^◌, Bool, true, false, not, ◌&&◌, nat_le, nat_lt, List, [], ◌∷◌, length, map, refl, sym, arith, All, IsTrue, subst, get_or, None, Some, ap, ◌∙◌}
+use Rattle.std.proofs.Common.{ℕ, zero, suc, ◌≡◌, ◌<◌, ◌≤◌, ◌+◌, ◌^◌, Bool, true, not, ◌&&◌, nat_le, nat_lt, List, [], ◌∷◌, length, map, refl, sym, arith, All, IsTrue, subst, get_or, None, Some, ap, ◌∙◌}
 use Rattle.std.specs.List.{slice_get}
 use Rattle.std.specs.Option.{option_map}
 use Rattle.outside.specs.Seen.{Image}
@@ -14,18 +14,15 @@ use Rattle.mark_kinds.specs.declared.groups.GroupKind.{GroupKind}
 use Rattle.mark_kinds.specs.declared.groups.GroupKind.TheVariants.{Gpt as GptGroup, Ntfs, Xfs, Btrfs, Lvm, Ext, Xfs5}
 use Rattle.mark_kinds.specs.declared.sectors.Kind.{Kind}
 use Rattle.mark_kinds.specs.declared.sectors.Kind.TheVariants.{Gpt, Boot, FileRecord, Super, Agf, Agi, Btrfs as BtrfsMark, Lvm as LvmMark, Ext as ExtMark, Xfs5 as Xfs5Mark}
-use Rattle.landmark_rules.specs.declared.marks.Mark.{Mark}
-use Rattle.landmark_rules.specs.declared.marks.Rule.TheVariants.{At}
 use Rattle.std.specs.Prelude.{◌==◌, IfSome, IsSomeAnd, count_by}
 use Rattle.landmark_rules.specs.declared.limits.TheConstants.{MOST_MARKS, MOST_ORIGINS}
-use Rattle.raid_params.specs.declared.limits.TheConstants.{MOST, MOST_MISSING, MOST_OFFSETS}
-use Rattle.raid_params.specs.declared.types.Level.{Level}
-use Rattle.raid_params.specs.declared.types.Pattern.{Pattern}
-use Rattle.raid_params.specs.declared.types.Syndrome.{Syndrome}
+use Rattle.raid_params.specs.declared.limits.TheConstants.{LONGEST_DELAY, MOST, MOST_DELAYS, MOST_MISSING, MOST_OFFSETS}
 use Rattle.raid_params.specs.Validity.{is_chunk}
 use Rattle.search_plan.specs.Plans.{AreRising, IsPlan}
 use Rattle.search_plan.specs.Places.{level_place, pattern_place, syndrome_place}
 use Rattle.search_plan.specs.declared.plan.Plan.{Plan}
+use Rattle.search_rows.specs.SmallPlans.{a_header, headers}
+use Rattle.arrayvec.specs.ArrayVec.{ArrayVec}
 
 abbrev every : (ℕ → Bool) → List ℕ → Bool
 every p [] = true
@@ -92,6 +89,9 @@ rules_of plan =
     ∷ nat_lt plan.tests.misfits (2 ^ 55)
     ∷ nat_lt plan.tests.least (2 ^ 55)
     ∷ not plan.each
+    ∷ are_rising plan.bounds.delays.items
+    ∷ nat_le (length plan.bounds.delays.items) MOST_DELAYS
+    ∷ every (λ n. nat_le 1 n && nat_le n LONGEST_DELAY) plan.bounds.delays.items
     ∷ []
 
 unfoldable pub keeps_rules : Plan → Bool
@@ -121,6 +121,10 @@ from_rules plan are t = record {
     few_members = all_of (λ n. nat_le 2 n && nat_le n MOST) (λ n. (2 ≤ n) × (n ≤ MOST)) plan.bounds.members.items
         (λ n e. let parts = and_parts (nat_le 2 n) (nat_le n MOST) e in (leb-true 2 n parts.0, leb-true n MOST parts.1)) (t 6);
     patterns = rising_list (map pattern_place plan.bounds.patterns.items) (t 7);
+    delays = rising_list plan.bounds.delays.items (t 25);
+    few_delays = leb-true (length plan.bounds.delays.items) MOST_DELAYS (t 26);
+    short_delays = all_of (λ n. nat_le 1 n && nat_le n LONGEST_DELAY) (λ n. (1 ≤ n) × (n ≤ LONGEST_DELAY)) plan.bounds.delays.items
+        (λ n e. let parts = and_parts (nat_le 1 n) (nat_le n LONGEST_DELAY) e in (leb-true 1 n parts.0, leb-true n LONGEST_DELAY parts.1)) (t 27);
     syndromes = rising_list (map syndrome_place plan.bounds.syndromes.items) (t 8);
     chunks = rising_list plan.bounds.chunks.items (t 9);
     powers = all_of is_chunk (λ n. IsTrue (is_chunk n)) plan.bounds.chunks.items (λ n e. e) (t 10);
@@ -145,69 +149,6 @@ from_rules plan are t = record {
   groups = are;
   each = λ e. absurd (false≢true (sym (ap not e) ∙ t 24));
 }
-
--- the plan of these lists and numbers
-abbrev pub plan_with : List ℕ → ℕ → List Level → List ℕ → List Pattern → List Syndrome → List ℕ → List ℕ → ℕ → ℕ → ℕ → ℕ → List ℕ → ℕ → ℕ → List Group → Plan
-plan_with lengths end levels members patterns syndromes chunks offsets missing foreign badrows window origins misfits least groups = record {
-  lengths = record { items = lengths };
-  end = end;
-  bounds = record {
-    levels = record { items = levels };
-    members = record { items = members };
-    patterns = record { items = patterns };
-    syndromes = record { items = syndromes };
-    chunks = record { items = chunks };
-    offsets = record { items = offsets };
-    missing = missing;
-    foreign = foreign;
-  };
-  limits = record { badrows = badrows; window = window };
-  tests = record { origins = record { items = origins }; misfits = misfits; least = least };
-  groups = groups;
-  each = false;
-}
-
--- a plan of lists that keep the rules
-pub plan_is : (lengths ls : List ℕ) (end : ℕ) (levels vs : List Level) (members ms : List ℕ) (patterns ps : List Pattern) (syndromes ss : List Syndrome) (chunks cs offsets os : List ℕ) (missing foreign badrows window : ℕ)
-    (origins rs : List ℕ) (misfits least : ℕ) (groups gs : List Group) →
-    lengths ≡ ls → levels ≡ vs → members ≡ ms → patterns ≡ ps → syndromes ≡ ss → chunks ≡ cs → offsets ≡ os → origins ≡ rs → groups ≡ gs → AreGroups ls gs →
-    keeps_rules (plan_with ls end vs ms ps ss cs os missing foreign badrows window rs misfits least gs) ≡ true →
-    IsPlan (plan_with lengths end levels members patterns syndromes chunks offsets missing foreign badrows window origins misfits least groups)
-unfolding keeps_rules
-plan_is lengths ls end levels vs members ms patterns ps syndromes ss chunks cs offsets os missing foreign badrows window origins rs misfits least groups gs el ev em ep es ec eo er eg are kept =
-    let made : plan_with lengths end levels members patterns syndromes chunks offsets missing foreign badrows window origins misfits least groups ≡ plan_with ls end vs ms ps ss cs os missing foreign badrows window rs misfits least gs = rw (el, ev, em, ep, es, ec, eo, er, eg) refl in
-    subst IsPlan (sym made) (from_rules (plan_with ls end vs ms ps ss cs os missing foreign badrows window rs misfits least gs) are (each_true (rules_of (plan_with ls end vs ms ps ss cs os missing foreign badrows window rs misfits least gs)) kept))
-
--- more or fewer rows may be unsound
-pub with_badrows : (plan : Plan) (badrows : ℕ) → badrows < 2 ^ 55 → IsPlan plan → IsPlan (record plan { limits = record { badrows = badrows; window = plan.limits.window } })
-with_badrows plan badrows few is = record {
-  lengths = is.lengths;
-  ends = is.ends;
-  bounds = is.bounds;
-  limits = record { badrows = few; some_window = is.limits.some_window; window = is.limits.window };
-  tests = is.tests;
-  groups = is.groups;
-  each = is.each;
-}
-
--- images that have these lengths one by one, and no more, have these lengths
-pub have_lengths : (attached : List Image) (lengths : List ℕ) → ((i : ℕ) → i < length lengths → option_map (λ image. image.sectors) (slice_get attached i) ≡ Some (get_or lengths i 0)) →
-    option_map (λ image. image.sectors) (slice_get attached (length lengths)) ≡ None → map (λ image. image.sectors) attached ≡ lengths
-have_lengths [] [] each over = refl
-have_lengths [] (n ∷ lengths) each over = let bad : None ≡ Some n = each 0 (omega arith) in (cc)
-have_lengths (image ∷ attached) [] each over = let bad : Some image.sectors ≡ None = over in (cc)
-have_lengths (image ∷ attached) (n ∷ lengths) each over =
-    let here : Some image.sectors ≡ Some n = each 0 (omega arith) in
-    let same : image.sectors ≡ n = (cc) in
-    let rest = have_lengths attached lengths (λ i lt. each (suc i) (omega arith)) over in
-    ap (λ (k : ℕ). k ∷ map (λ (one : Image). one.sectors) attached) same ∙ ap (λ (l : List ℕ). n ∷ l) rest
-
--- a group of two headers of a partition table, on different images
-abbrev pub a_header : ℕ → Mark
-a_header image = record { kind = Gpt; image = image; sector = 0; rule = At 1 }
-
-abbrev pub headers : List Group
-headers = record { kind = GptGroup; marks = a_header 1 ∷ a_header 2 ∷ []; bounds = None } ∷ []
 
 header_is : (lengths : List ℕ) (image : ℕ) → image < MOST → IsSomeAnd (slice_get lengths image) (λ n. 0 < n) → IsMark lengths GptGroup (a_header image)
 header_is lengths image few there = record { kind_of = refl; image = few; sector = there; rule = omega arith }
@@ -246,3 +187,41 @@ headers_are lengths second third = record {
     few_marks LvmMark = omega arith
     few_marks ExtMark = omega arith
     few_marks Xfs5Mark = omega arith
+
+-- a plan without groups that keeps the rules
+pub plan_is : (plan : Plan) → plan.groups ≡ [] → keeps_rules plan ≡ true → IsPlan plan
+unfolding keeps_rules
+plan_is plan none kept = from_rules plan (subst (AreGroups plan.lengths.items) (sym none) (no_groups plan.lengths.items)) (each_true (rules_of plan) kept)
+
+-- one with two headers
+pub headers_plan_is : (plan : Plan) → plan.groups ≡ headers → IsSomeAnd (slice_get plan.lengths.items 1) (λ n. 0 < n) → IsSomeAnd (slice_get plan.lengths.items 2) (λ n. 0 < n) → keeps_rules plan ≡ true → IsPlan plan
+unfolding keeps_rules
+headers_plan_is plan two second third kept = from_rules plan (subst (AreGroups plan.lengths.items) (sym two) (headers_are plan.lengths.items second third)) (each_true (rules_of plan) kept)
+
+-- a list is what its elements are
+pub of_items : {A : Type 0} {xs : ArrayVec A} {items : List A} → xs.items ≡ items → xs ≡ record { items = items }
+of_items {A} e = ap (λ (l : List A). let v : ArrayVec A = record { items = l } in v) e
+
+-- more or fewer rows may be unsound
+pub with_badrows : (plan : Plan) (badrows : ℕ) → badrows < 2 ^ 55 → IsPlan plan → IsPlan (record plan { limits = record { badrows = badrows; window = plan.limits.window } })
+with_badrows plan badrows few is = record {
+  lengths = is.lengths;
+  ends = is.ends;
+  bounds = is.bounds;
+  limits = record { badrows = few; some_window = is.limits.some_window; window = is.limits.window };
+  tests = is.tests;
+  groups = is.groups;
+  each = is.each;
+}
+
+-- images that have these lengths one by one, and no more, have these lengths
+pub have_lengths : (attached : List Image) (lengths : List ℕ) → ((i : ℕ) → i < length lengths → option_map (λ image. image.sectors) (slice_get attached i) ≡ Some (get_or lengths i 0)) →
+    option_map (λ image. image.sectors) (slice_get attached (length lengths)) ≡ None → map (λ image. image.sectors) attached ≡ lengths
+have_lengths [] [] each over = refl
+have_lengths [] (n ∷ lengths) each over = let bad : None ≡ Some n = each 0 (omega arith) in (cc)
+have_lengths (image ∷ attached) [] each over = let bad : Some image.sectors ≡ None = over in (cc)
+have_lengths (image ∷ attached) (n ∷ lengths) each over =
+    let here : Some image.sectors ≡ Some n = each 0 (omega arith) in
+    let same : image.sectors ≡ n = (cc) in
+    let rest = have_lengths attached lengths (λ i lt. each (suc i) (omega arith)) over in
+    ap (λ (k : ℕ). k ∷ map (λ (one : Image). one.sectors) attached) same ∙ ap (λ (l : List ℕ). n ∷ l) rest

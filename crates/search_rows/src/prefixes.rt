@@ -21,12 +21,13 @@ use std::test::Fail;
 
 // Left-symmetric from sector 0 on, with chunks of one sector.
 fn head_of(level: Level, members: u8, syndrome: Syndrome) -> Head
-    ensures { result ≡ record { level = level; members = members; pattern = Ls; syndrome = syndrome; chunk = 1; offset = 0 } }
+    ensures { result ≡ record { level = level; members = members; pattern = Ls; delay = 1; syndrome = syndrome; chunk = 1; offset = 0 } }
 {
     Head {
         level,
         members,
         pattern: Pattern::Ls,
+        delay: 1,
         syndrome,
         chunk: 1,
         offset: 0,

@@ -3,9 +3,9 @@ ghost use Rattle.std.specs.Prelude.{◌<◌, ◌^◌};
 ghost use Rattle.search_plan.specs.Plans.{IsPlan};
 ghost use Rattle.plan_sets.specs.Sets.{total_of};
 
-use crate::plans::{largest, one_missing, two_levels};
+use crate::plans::{largest, one_missing, two_delays, two_levels};
 use raid_params::{Geometry, Head, Level, Pattern};
-use search_plan::Plan;
+use search_plan::{Placed, Plan};
 use set_product::{Heads, product_rank, product_set, product_total};
 use std::process::Abort;
 
@@ -35,6 +35,31 @@ fn head_at<R: Abort>(rt: &R, plan: &Plan, rank: u64) -> Head
     requires { IsPlan plan.now }
 {
     set_of(rt, plan, rank).head
+}
+
+// Whether the set of this rank has this pattern with this delay.
+fn has_rotation<R: Abort>(rt: &R, plan: &Plan, rank: u64, pattern: Pattern, delay: u64) -> bool
+    requires { IsPlan plan.now }
+{
+    let head = head_at(rt, plan, rank);
+    head.pattern.place() == pattern.place() && head.delay == delay
+}
+
+// Three images have 3 * 2 orders. La comes with both delays before parity-last does, which does not move and has the delay 1 alone.
+#[test]
+fn two_delays_of_two_patterns(rt: HostRuntime) {
+    let plan = two_delays(rt.alloc());
+    assert_eq!(rt; product_total(&plan), Some(18));
+    for rank in 0..6 {
+        assert!(rt; has_rotation(&rt, &plan, rank, Pattern::La, 1));
+        assert!(rt; has_rotation(&rt, &plan, rank + 6, Pattern::La, 2));
+        assert!(rt; has_rotation(&rt, &plan, rank + 12, Pattern::ParityLast, 1));
+    }
+    assert!(rt; stands(&rt, &plan, 6, &[Some(0), Some(1), Some(2)]));
+    assert!(rt; stands(&rt, &plan, 17, &[Some(2), Some(1), Some(0)]));
+    let mut absent = set_of(&rt, &plan, 12);
+    absent.head.delay = 2;
+    assert_eq!(rt; product_rank(&plan, &absent), None);
 }
 
 // Two members of level 0 take 3 * 2 orders of two images, three take 3 * 2 of all, and three of

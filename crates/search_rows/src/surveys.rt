@@ -118,6 +118,7 @@ fn ask(offset: u64, end: u64) -> Ask
         levels: one(Level::Raid0),
         members: one(2),
         patterns: one(Pattern::Plain),
+        delays: one(1),
         syndromes: one(Syndrome::NoQ),
         chunks: one(8),
         offsets: one(offset),

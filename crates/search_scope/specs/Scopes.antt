@@ -1,7 +1,7 @@
 -- Which scopes and which bounds there are: their numbers are within the limits of the tool, and their lists rise.
 use Rattle.std.specs.Prelude.{ℕ, ◌≡◌, ◌≤◌, ◌<◌, ◌^◌, IsTrue, List, length, map, All}
 use Rattle.outside.specs.Seen.{Image, lengths_of}
-use Rattle.raid_params.specs.declared.limits.TheConstants.{MOST}
+use Rattle.raid_params.specs.declared.limits.TheConstants.{LONGEST_DELAY, MOST, MOST_DELAYS}
 use Rattle.raid_params.specs.declared.types.Bounds.{Bounds}
 use Rattle.raid_params.specs.Places.{AreRising, level_place, pattern_place, syndrome_place}
 use Rattle.raid_params.specs.Validity.{is_chunk}
@@ -21,6 +21,9 @@ pub record AreBounds (bounds : Bounds) : Type 0 where
   pub members : AreRising bounds.members.items
   pub few_members : All (λ n. (2 ≤ n) × (n ≤ MOST)) bounds.members.items
   pub patterns : AreRising (map pattern_place bounds.patterns.items)
+  pub delays : AreRising bounds.delays.items
+  pub few_delays : length bounds.delays.items ≤ MOST_DELAYS
+  pub short_delays : All (λ delay. (1 ≤ delay) × (delay ≤ LONGEST_DELAY)) bounds.delays.items
   pub syndromes : AreRising (map syndrome_place bounds.syndromes.items)
   pub chunks : AreRising bounds.chunks.items
   pub powers : All (λ chunk. IsTrue (is_chunk chunk)) bounds.chunks.items

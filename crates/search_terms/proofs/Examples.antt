@@ -17,6 +17,7 @@ bounds_of levels members patterns missing foreign = record {
   levels = record { items = levels };
   members = record { items = members };
   patterns = record { items = patterns };
+  delays = record { items = 1 ∷ [] };
   syndromes = record { items = NoQ ∷ [] };
   chunks = record { items = 1 ∷ [] };
   offsets = record { items = 0 ∷ [] };

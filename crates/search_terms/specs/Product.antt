@@ -13,9 +13,9 @@ use Rattle.raid_params.specs.Slots.{is_distinct, empties}
 -- the heads that make sense among all combinations of the values, in nested order
 abbrev pub heads : Bounds → List Head
 heads bounds = filter is_valid_head
-    (flat_map (λ level. flat_map (λ members. flat_map (λ pattern. flat_map (λ syndrome. flat_map (λ chunk. map (λ offset.
-    record { level = level; members = members; pattern = pattern; syndrome = syndrome; chunk = chunk; offset = offset })
-    bounds.offsets.items) bounds.chunks.items) bounds.syndromes.items) bounds.patterns.items) bounds.members.items) bounds.levels.items)
+    (flat_map (λ level. flat_map (λ members. flat_map (λ pattern. flat_map (λ delay. flat_map (λ syndrome. flat_map (λ chunk. map (λ offset.
+    record { level = level; members = members; pattern = pattern; delay = delay; syndrome = syndrome; chunk = chunk; offset = offset })
+    bounds.offsets.items) bounds.chunks.items) bounds.syndromes.items) bounds.delays.items) bounds.patterns.items) bounds.members.items) bounds.levels.items)
 
 -- no image stands twice; at most as many places are empty as may be missing and as the level survives;
 -- and at most as many images stand in no place as may be foreign

@@ -16,7 +16,7 @@ use Rattle.virtual_volume.specs.declared.volume.VolumeFault.{VolumeFault}
 use Rattle.virtual_volume.specs.declared.volume.VolumeFault.TheVariants.{ReadFault as VolumeRead, WriteFault as VolumeWrite, Memory as VolumeMemory}
 use Rattle.run_ends.specs.Agreement.{end_of, shortest}
 use Rattle.run_ends.specs.Jobs.{Does, Job, Leaves, Named, around, named, textless}
-use Rattle.set_jobs.specs.Mapping.{bases_refusal, geo_refusal}
+use Rattle.set_jobs.specs.Mapping.{bases_refusal, geo_refusal, late_refusal}
 use Rattle.run_ends.specs.Stops.{EndsBy, first_of}
 use Rattle.set_jobs.specs.Faults.{stop_of_volume}
 use Rattle.set_jobs.specs.Writing.{IsServedBy, Writes, rebuild_refusal, slot_refusal}
@@ -56,23 +56,23 @@ served set end names last attached none suits word small near long is ruled =
       };
     }
 
--- `rebuild` ends by the refusal of its set, by that of its slot, or by that of its bases
+-- `rebuild` ends by the refusal of its set, by that of its slot, or by that of its bases or its delay
 pub set_refused : (set : Wide) (end : Option ℕ) (slot names : ℕ) (attached : List Image) (refusal : Refusal) → geo_refusal set end names attached ≡ Some refusal → rebuild_refusal set end slot names attached ≡ Some refusal
 unfolding rebuild_refusal
-set_refused set end slot names attached refusal e = ap (λ r. first_of (r ∷ slot_refusal set.geo slot ∷ bases_refusal set names ∷ [])) e
+set_refused set end slot names attached refusal e = ap (λ r. first_of (r ∷ slot_refusal set.geo slot ∷ late_refusal set names ∷ [])) e
 
 pub slot_refused : (set : Wide) (end : Option ℕ) (slot names : ℕ) (attached : List Image) → geo_refusal set end names attached ≡ None → (nat_lt slot set.geo.head.members && is_none (slice_index_or set.geo.slots.items slot None)) ≡ false →
     rebuild_refusal set end slot names attached ≡ Some (Slot slot)
 unfolding rebuild_refusal
 slot_refused set end slot names attached none e =
-    ap (λ r. first_of (r ∷ slot_refusal set.geo slot ∷ bases_refusal set names ∷ [])) none ∙ ap (λ (b : Bool). first_of (cond b None (Some (Slot slot)) ∷ bases_refusal set names ∷ [])) e
+    ap (λ r. first_of (r ∷ slot_refusal set.geo slot ∷ late_refusal set names ∷ [])) none ∙ ap (λ (b : Bool). first_of (cond b None (Some (Slot slot)) ∷ late_refusal set names ∷ [])) e
 
 pub slot_allowed : (set : Wide) (end : Option ℕ) (slot names : ℕ) (attached : List Image) (last : Option Refusal) → geo_refusal set end names attached ≡ None → (nat_lt slot set.geo.head.members && is_none (slice_index_or set.geo.slots.items slot None)) ≡ true →
-    bases_refusal set names ≡ last → rebuild_refusal set end slot names attached ≡ last
+    late_refusal set names ≡ last → rebuild_refusal set end slot names attached ≡ last
 unfolding rebuild_refusal
 slot_allowed set end slot names attached last none e is =
-    ap (λ r. first_of (r ∷ slot_refusal set.geo slot ∷ bases_refusal set names ∷ [])) none ∙ ap (λ (b : Bool). first_of (cond b None (Some (Slot slot)) ∷ bases_refusal set names ∷ [])) e
-    ∙ alone (bases_refusal set names) ∙ is
+    ap (λ r. first_of (r ∷ slot_refusal set.geo slot ∷ late_refusal set names ∷ [])) none ∙ ap (λ (b : Bool). first_of (cond b None (Some (Slot slot)) ∷ late_refusal set names ∷ [])) e
+    ∙ alone (late_refusal set names) ∙ is
   where
     alone : (r : Option Refusal) → first_of (r ∷ []) ≡ r
     alone None = refl

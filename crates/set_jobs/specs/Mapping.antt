@@ -6,7 +6,7 @@ use Rattle.std.specs.declared.option.Option.TheVariants.{None, Some}
 use Rattle.outside.specs.Seen.{Image}
 use Rattle.raid_params.specs.declared.types.Head.{Head}
 use Rattle.raid_params.specs.Size.{volume_sectors}
-use Rattle.raid_params.specs.Validity.{first_fault}
+use Rattle.raid_params.specs.Validity.{early_fault}
 use Rattle.raid_params.specs.Wide.{has_bases}
 use Rattle.raid_params.specs.declared.wide.Wide.{Wide}
 use Rattle.raid_terms.specs.Address.{home_item, home_row, home_sector, home_slot}
@@ -15,7 +15,7 @@ use Rattle.raid_layouts.specs.Names.{name_of}
 use Rattle.run_ends.specs.Jobs.{Job, textless}
 use Rattle.run_ends.specs.Printing.{or_dash}
 use Rattle.run_ends.specs.Agreement.{end_of, limits_fault, long_fault}
-use Rattle.run_ends.specs.Stops.{first_of}
+use Rattle.run_ends.specs.Stops.{delay_refusal, first_of}
 use Rattle.run_ends.specs.declared.agreement.Disagreement.{Disagreement}
 use Rattle.run_ends.specs.declared.stop.Refusal.{Refusal}
 use Rattle.run_ends.specs.declared.stop.Refusal.TheVariants.{Images, Set, Bases, Sector}
@@ -24,21 +24,25 @@ use Rattle.run_ends.specs.declared.stop.Refusal.TheVariants.{Images, Set, Bases,
 abbrev pub long_refused : Wide → List Image → Option Disagreement
 long_refused set attached = if length set.bases.items == 0 then None else long_fault attached
 
--- the first refusals of a command over one set: the images, then the rules on the parameters
+-- the first refusals of a command over one set: the images, then the rules on the parameters but for the delay
 unfoldable pub geo_refusal : Wide → Option ℕ → ℕ → List Image → Option Refusal
 geo_refusal set end names attached =
     first_of (option_map (λ fault. Images fault) (limits_fault end names attached)
     ∷ option_map (λ fault. Images fault) (long_refused set attached)
-    ∷ option_map (λ fault. Set fault) (first_fault set.geo names (end_of end attached))
+    ∷ option_map (λ fault. Set fault) (early_fault set.geo names (end_of end attached))
     ∷ [])
 
 -- there are bases, and they suit the images or the slots not
 abbrev pub bases_refusal : Wide → ℕ → Option Refusal
 bases_refusal set names = if has_bases names set.geo.slots.items set.bases.items then None else Some (Bases (length set.bases.items))
 
--- the refusals of a command over one set: the rule on its bases is the last one
+-- the last refusals of a command over one set: the rule on its bases, and after all others that on its delay
+abbrev pub late_refusal : Wide → ℕ → Option Refusal
+late_refusal set names = first_of (bases_refusal set names ∷ delay_refusal set.geo.head ∷ [])
+
+-- the refusals of a command over one set
 unfoldable pub set_refusal : Wide → Option ℕ → ℕ → List Image → Option Refusal
-set_refusal set end names attached = first_of (geo_refusal set end names attached ∷ bases_refusal set names ∷ [])
+set_refusal set end names attached = first_of (geo_refusal set end names attached ∷ late_refusal set names ∷ [])
 
 -- the sector is past the end of the volume
 abbrev pub sector_refusal : Head → ℕ → ℕ → Option Refusal
@@ -63,9 +67,13 @@ place_line set row item slot sector =
     ++ codes " image " ++ or_dash (slice_index_or set.geo.slots.items slot None) ++ codes " sector " ++ decimal (base_at set (slice_index_or set.geo.slots.items slot None) + sector)
     ++ codes " p " ++ or_dash (p_of set.geo.head row) ++ codes " q " ++ or_dash (q_of set.geo.head row) ++ codes "\n"
 
--- the name of the layout
+-- the name of a layout, where parity stays for one row
+abbrev pub layout_name : Head → Option (List ℕ)
+layout_name head = if head.delay == 1 then name_of head.level head.pattern head.syndrome else None
+
+-- the line of the name, and of a dash where there is none
 unfoldable pub name_line : Head → List ℕ
-name_line head = codes "name " ++ unwrap_or (name_of head.level head.pattern head.syndrome) (codes "-") ++ codes "\n"
+name_line head = codes "name " ++ unwrap_or (layout_name head) (codes "-") ++ codes "\n"
 
 -- the two lines of `map`
 abbrev pub map_text : Wide → ℕ → List ℕ

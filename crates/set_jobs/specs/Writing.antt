@@ -18,7 +18,7 @@ use Rattle.virtual_volume.specs.declared.volume.VolumeFault.{VolumeFault}
 use Rattle.virtual_volume.specs.declared.volume.VolumeFault.TheVariants.{ReadFault, Memory}
 use Rattle.run_ends.specs.Agreement.{end_of}
 use Rattle.run_ends.specs.Jobs.{Job, textless}
-use Rattle.set_jobs.specs.Mapping.{bases_refusal, geo_refusal, set_refusal}
+use Rattle.set_jobs.specs.Mapping.{geo_refusal, late_refusal, set_refusal}
 use Rattle.run_ends.specs.Stops.{first_of}
 use Rattle.run_ends.specs.declared.stop.Refusal.{Refusal}
 use Rattle.run_ends.specs.declared.stop.Refusal.TheVariants.{Slot}
@@ -60,7 +60,7 @@ slot_refusal set slot = if nat_lt slot set.head.members && is_none (slice_index_
 
 -- the first refusal of `rebuild`
 unfoldable pub rebuild_refusal : Wide → Option ℕ → ℕ → ℕ → List Image → Option Refusal
-rebuild_refusal set end slot names attached = first_of (geo_refusal set end names attached ∷ slot_refusal set.geo slot ∷ bases_refusal set names ∷ [])
+rebuild_refusal set end slot names attached = first_of (geo_refusal set end names attached ∷ slot_refusal set.geo slot ∷ late_refusal set names ∷ [])
 
 -- what `rebuild` prints: the member of the slot
 abbrev pub rebuild_output : Wide → Option ℕ → ℕ → List Image → Option (List (List ℕ)) → Option (List ℕ)

@@ -5,10 +5,9 @@ ghost use Rattle.run_ends.specs.Printing.{or_dash};
 ghost use Rattle.outside.specs.Streams.{Stream};
 ghost use Rattle.run_ends.specs.Jobs.{Answers, Does, Refuses, around, named, stream};
 ghost use Rattle.run_ends.specs.Stops.{IsEarly};
-ghost use Rattle.set_jobs.specs.Mapping.{base_at, bases_refusal, geo_refusal, long_refused, map_job, map_text as map_text_of, name_line, place_line, sector_refusal, set_refusal};
+ghost use Rattle.set_jobs.specs.Mapping.{base_at, bases_refusal, geo_refusal, late_refusal, layout_name as layout_name_of, long_refused, map_job, map_text as map_text_of, name_line, place_line, sector_refusal, set_refusal};
 ghost use Rattle.value_text.specs.SetText.{HasWord};
-ghost use Rattle.raid_params.specs.Validity.{first_fault, is_valid_head};
-ghost use Rattle.raid_layouts.specs.Names.{name_of};
+ghost use Rattle.raid_params.specs.Validity.{early_fault, first_fault, is_valid_head};
 ghost use Rattle.raid_terms.specs.Role.{p_of, q_of};
 ghost use Rattle.raid_terms.specs.Address.{home_item, home_row, home_sector, home_slot};
 
@@ -47,7 +46,7 @@ pub fn map<I: Images, K: Sink>(
 }
 
 /// The text of `map`, or why there is none.
-#[tactic(auto, using(raid_layouts::proofs::Shapes::shaped_head, raid_layouts::proofs::Shapes::shaped_slots, run_ends::proofs::Refusals::ruled_shape))]
+#[tactic(auto, using(raid_layouts::proofs::Shapes::shaped_head, raid_layouts::proofs::Shapes::shaped_slots, raid_params::proofs::Ruled::ruled_shape))]
 fn answer<I: Images>(
     alloc: Global,
     images: &I,
@@ -86,7 +85,7 @@ fn place_text(alloc: Global, set: &Wide, end: u64, sector: u64) -> Result<Text, 
 }
 
 /// The end of the members, where `names` images and the set are such that a command over the set goes on.
-#[tactic(auto, using(crate::proofs::SetRefusals::geo_refused, crate::proofs::SetRefusals::bases_refused, crate::proofs::SetRefusals::set_allowed))]
+#[tactic(auto, using(crate::proofs::SetRefusals::geo_refused, crate::proofs::SetRefusals::late_refused, crate::proofs::SetRefusals::set_allowed, crate::proofs::SetRefusals::late_none, crate::proofs::SetRefusals::all_kept))]
 pub fn suited_end<I: Images>(
     images: &I,
     names: usize,
@@ -104,7 +103,7 @@ pub fn suited_end<I: Images>(
     ensures refused { IfErr result (λ refusal. set_refusal set.now end names (I.seen images.now).attached ≡ Some refusal) }
 {
     match allowed_end(images, names, set, end) {
-        Ok(end) => match bases_fault(set, names as u8, end) {
+        Ok(end) => match late_fault(set, names as u8, end) {
             None => Ok(end),
             Some(refusal) => Err(refusal),
         },
@@ -113,7 +112,7 @@ pub fn suited_end<I: Images>(
 }
 
 /// The end of the members, where `names` images are such that a command over the set goes on, and the set breaks no
-/// rule but that on its bases.
+/// rule but those on its bases and its delay.
 #[tactic(auto, using(run_ends::proofs::Lengths::end_near, crate::proofs::SetRefusals::images_refused, crate::proofs::SetRefusals::image_refused, crate::proofs::SetRefusals::rule_refused, crate::proofs::SetRefusals::geo_allowed))]
 pub fn allowed_end<I: Images>(
     images: &I,
@@ -126,7 +125,7 @@ pub fn allowed_end<I: Images>(
     requires end { IfSome end (λ sector. sector < 2 ^ 55) }
     ensures end { IfOk result (λ e. (e ≡ end_of_images end (I.seen images.now).attached) × (e < 2 ^ 55)) }
     ensures allowed { OnOk result (geo_refusal set.now end names (I.seen images.now).attached ≡ None) }
-    ensures valid { IfOk result (λ e. first_fault set.now.geo names e ≡ None) }
+    ensures valid { IfOk result (λ e. early_fault set.now.geo names e ≡ None) }
     ensures few { OnOk result (names ≤ MOST) }
     ensures refused { IfErr result (λ refusal. geo_refusal set.now end names (I.seen images.now).attached ≡ Some refusal) }
 {
@@ -137,7 +136,7 @@ pub fn allowed_end<I: Images>(
         return Err(Refusal::Images(fault));
     }
     let end = end_of(images, names, end);
-    match set.geo.validate(names as u8, end) {
+    match set.geo.validate_early(names as u8, end) {
         Ok(()) => Ok(end),
         Err(fault) => Err(Refusal::Set(fault)),
     }
@@ -156,15 +155,17 @@ fn long_for<I: Images>(images: &I, count: usize, set: &Wide) -> Option<Disagreem
     }
 }
 
-/// The refusal of bases that do not suit `images` images or the slots, where the set breaks no other rule.
-#[tactic(auto, using(crate::proofs::SetRefusals::by_bases))]
-pub fn bases_fault(set: &Wide, images: u8, end: u64) -> Option<Refusal>
-    requires { first_fault set.now.geo images end ≡ None }
-    ensures { result ≡ bases_refusal set.now images }
+/// The refusal of bases that do not suit `images` images or the slots, or else of a delay that does not suit the pattern,
+/// where the set breaks no earlier rule.
+#[tactic(auto, using(crate::proofs::SetRefusals::by_late))]
+pub fn late_fault(set: &Wide, images: u8, end: u64) -> Option<Refusal>
+    requires { early_fault set.now.geo images end ≡ None }
+    ensures { result ≡ late_refusal set.now images }
 {
     match set.validate(images, end) {
+        Ok(()) => None,
         Err(WideFault::Bases(count)) => Some(Refusal::Bases(count)),
-        _ => None,
+        Err(WideFault::Geo(fault)) => Some(Refusal::Set(fault)),
     }
 }
 
@@ -278,10 +279,13 @@ fn add_name(text: &mut Text, head: &Head) -> Result<(), Memory>
     text.extend_from_slice(b"\n")
 }
 
-/// The name of the layout, or a dash.
+/// The name of the layout, or a dash: only layouts whose parity stays for one row have one.
 fn layout_name(head: &Head) -> &'static str
-    ensures { result.now ≡ unwrap_or (name_of head.now.level head.now.pattern head.now.syndrome) (codes "-") }
+    ensures { result.now ≡ unwrap_or (layout_name_of head.now) (codes "-") }
 {
+    if head.delay != 1 {
+        return "-";
+    }
     match md_name(head.level, head.pattern, head.syndrome) {
         Some(name) => name,
         None => "-",

@@ -13,7 +13,7 @@ ghost use Rattle.member_regions.specs.declared.regions.TheConstants.{BLOCK};
 ghost use Rattle.member_rebuild.specs.Sectors.{IsAheadBy};
 ghost use Rattle.virtual_volume.specs.Gained.{IsAhead, most_ahead};
 
-use crate::mapping::{allowed_end, bases_fault, suited_end};
+use crate::mapping::{allowed_end, late_fault, suited_end};
 use image_padding::Padded;
 use outside::{Images, MOST_ATTACHED, Sink};
 use raid_params::{Geometry, Wide};
@@ -164,7 +164,7 @@ pub fn served_end<I: Images>(
 }
 
 /// The end of the members of a set of which one slot is empty, whose member can be written.
-#[tactic(auto, using(crate::proofs::Written::served, crate::proofs::Written::set_refused, crate::proofs::Written::slot_refused, crate::proofs::Written::slot_allowed))]
+#[tactic(auto, using(crate::proofs::Written::served, crate::proofs::SetRefusals::late_none, crate::proofs::SetRefusals::all_kept, crate::proofs::Written::set_refused, crate::proofs::Written::slot_refused, crate::proofs::Written::slot_allowed))]
 fn missing_end<I: Images>(
     images: &I,
     names: usize,
@@ -183,7 +183,7 @@ fn missing_end<I: Images>(
     ensures refused { IfErr result (λ refusal. rebuild_refusal set.now end slot names (I.seen images.now).attached ≡ Some refusal) }
 {
     match allowed_end(images, names, set, end) {
-        Ok(end) if is_missing(&set.geo, slot) => match bases_fault(set, names as u8, end) {
+        Ok(end) if is_missing(&set.geo, slot) => match late_fault(set, names as u8, end) {
             None => Ok(end),
             Some(refusal) => Err(refusal),
         },

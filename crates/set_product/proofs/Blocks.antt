@@ -9,7 +9,7 @@ use Rattle.raid_params.specs.declared.types.Head.{Head}
 use Rattle.raid_params.specs.declared.types.Level.{Level}
 use Rattle.raid_params.specs.declared.types.Pattern.{Pattern}
 use Rattle.raid_params.specs.declared.types.Syndrome.{Syndrome}
-use Rattle.raid_params.specs.Validity.{has_members, has_pattern, has_syndrome, is_chunk, is_valid_head}
+use Rattle.raid_params.specs.Validity.{has_delay, has_members, has_pattern, has_syndrome, is_chunk, is_valid_head}
 use Rattle.search_terms.specs.Product.{sets_of as sets_of_head}
 use Rattle.slot_math.specs.Space.{lists_of}
 use Rattle.slot_math.specs.declared.space.Space.{Space}
@@ -79,31 +79,39 @@ map_pairs {A} {B} {C} g (x ∷ xs) ys =
 
 -- what is chosen of a head beside its level and members
 abbrev pub Choice : Type 0
-Choice = (Pattern × Syndrome) × (ℕ × ℕ)
+Choice = ((Pattern × ℕ) × Syndrome) × (ℕ × ℕ)
 
 abbrev pub head_of : Level → ℕ → Choice → Head
-head_of level members c = record { level = level; members = members; pattern = c.0.0; syndrome = c.0.1; chunk = c.1.0; offset = c.1.1 }
+head_of level members c = record { level = level; members = members; pattern = c.0.0.0; delay = c.0.0.1; syndrome = c.0.1; chunk = c.1.0; offset = c.1.1 }
 
 -- all combinations are the pairs of pairs
 nested : (bounds : Bounds) (level : Level) (members : ℕ) →
-    flat_map (λ pattern. flat_map (λ syndrome. flat_map (λ chunk. map (λ offset. head_of level members ((pattern, syndrome), (chunk, offset)))
-    bounds.offsets.items) bounds.chunks.items) bounds.syndromes.items) bounds.patterns.items
-    ≡ map (head_of level members) (pairs (pairs bounds.patterns.items bounds.syndromes.items) (pairs bounds.chunks.items bounds.offsets.items))
+    flat_map (λ pattern. flat_map (λ delay. flat_map (λ syndrome. flat_map (λ chunk. map (λ offset. head_of level members (((pattern, delay), syndrome), (chunk, offset)))
+    bounds.offsets.items) bounds.chunks.items) bounds.syndromes.items) bounds.delays.items) bounds.patterns.items
+    ≡ map (head_of level members) (pairs (pairs (pairs bounds.patterns.items bounds.delays.items) bounds.syndromes.items) (pairs bounds.chunks.items bounds.offsets.items))
 nested bounds level members =
+    let rotations = pairs bounds.patterns.items bounds.delays.items in
     let ends = pairs bounds.chunks.items bounds.offsets.items in
-    let g : Pattern × Syndrome → List Head = λ start. map (λ (last : ℕ × ℕ). head_of level members (start, last)) (pairs bounds.chunks.items bounds.offsets.items) in
-    let h : Pattern → Syndrome → List Head = λ pattern syndrome. flat_map (λ chunk. map (λ offset. head_of level members ((pattern, syndrome), (chunk, offset))) bounds.offsets.items) bounds.chunks.items in
-    flat_same (λ pattern. flat_map (h pattern) bounds.syndromes.items) (λ pattern. flat_map (λ syndrome. g (pattern, syndrome)) bounds.syndromes.items) bounds.patterns.items
-    (λ pattern. flat_same (h pattern) (λ syndrome. g (pattern, syndrome)) bounds.syndromes.items
-    (λ syndrome. sym (map_pairs (λ (last : ℕ × ℕ). head_of level members ((pattern, syndrome), last)) bounds.chunks.items bounds.offsets.items)))
-    ∙ sym (flat_pairs g bounds.patterns.items bounds.syndromes.items)
-    ∙ sym (map_pairs (head_of level members) (pairs bounds.patterns.items bounds.syndromes.items) ends)
+    let g : (Pattern × ℕ) × Syndrome → List Head = λ start. map (λ (last : ℕ × ℕ). head_of level members (start, last)) (pairs bounds.chunks.items bounds.offsets.items) in
+    let h : Pattern × ℕ → Syndrome → List Head = λ rotation syndrome. flat_map (λ chunk. map (λ offset. head_of level members ((rotation, syndrome), (chunk, offset))) bounds.offsets.items) bounds.chunks.items in
+    let of_rotation : Pattern × ℕ → List Head = λ rotation. flat_map (λ syndrome. g (rotation, syndrome)) bounds.syndromes.items in
+    flat_same (λ pattern. flat_map (λ delay. flat_map (h (pattern, delay)) bounds.syndromes.items) bounds.delays.items) (λ pattern. flat_map (λ delay. of_rotation (pattern, delay)) bounds.delays.items) bounds.patterns.items
+    (λ pattern. flat_same (λ delay. flat_map (h (pattern, delay)) bounds.syndromes.items) (λ delay. of_rotation (pattern, delay)) bounds.delays.items
+    (λ delay. flat_same (h (pattern, delay)) (λ syndrome. g ((pattern, delay), syndrome)) bounds.syndromes.items
+    (λ syndrome. sym (map_pairs (λ (last : ℕ × ℕ). head_of level members (((pattern, delay), syndrome), last)) bounds.chunks.items bounds.offsets.items))))
+    ∙ sym (flat_pairs of_rotation bounds.patterns.items bounds.delays.items)
+    ∙ sym (flat_pairs g rotations bounds.syndromes.items)
+    ∙ sym (map_pairs (head_of level members) (pairs rotations bounds.syndromes.items) ends)
 
-regroup : (m p s c : Bool) → (m && (p && (s && c))) ≡ (((m && p) && s) && c)
-regroup false p s c = refl
-regroup true false s c = refl
-regroup true true false c = refl
-regroup true true true c = refl
+regroup : (m p s c d : Bool) → (m && (p && (s && (c && d)))) ≡ ((((m && p) && d) && s) && c)
+regroup false p s c d = refl
+regroup true false s c d = refl
+regroup true true false c true = refl
+regroup true true false c false = refl
+regroup true true true true true = refl
+regroup true true true true false = refl
+regroup true true true false true = refl
+regroup true true true false false = refl
 
 and_true : (b : Bool) → b ≡ (b && true)
 and_true true = refl
@@ -112,20 +120,21 @@ and_true false = refl
 -- the heads that make sense are pairs of those values that suit
 pub heads_are : (bounds : Bounds) (level : Level) (members : ℕ) → All (λ chunk. IsTrue (is_chunk chunk)) bounds.chunks.items →
     heads_with bounds level members ≡ map (head_of level members)
-    (pairs (pairs (filter (suits level members) bounds.patterns.items) (filter (has_syndrome level) bounds.syndromes.items)) (pairs bounds.chunks.items bounds.offsets.items))
+    (pairs (pairs (filter (suits level members) (pairs bounds.patterns.items bounds.delays.items)) (filter (has_syndrome level) bounds.syndromes.items)) (pairs bounds.chunks.items bounds.offsets.items))
 unfolding heads_with
 heads_are bounds level members powers =
-    let starts = pairs bounds.patterns.items bounds.syndromes.items in
+    let rotations = pairs bounds.patterns.items bounds.delays.items in
+    let starts = pairs rotations bounds.syndromes.items in
     let ends = pairs bounds.chunks.items bounds.offsets.items in
-    let f : Pattern × Syndrome → Bool = λ s. suits level members s.0 && has_syndrome level s.1 in
+    let f : (Pattern × ℕ) × Syndrome → Bool = λ s. suits level members s.0 && has_syndrome level s.1 in
     let g : ℕ × ℕ → Bool = λ e. is_chunk e.0 in
     ap (filter is_valid_head) (nested bounds level members)
     ∙ filter_of_map is_valid_head (head_of level members) (pairs starts ends)
     ∙ ap (map (head_of level members)) (
     filter_pairs (λ c. is_valid_head (head_of level members c)) f g starts ends
-    (λ s e. regroup (has_members level members) (has_pattern level s.0) (has_syndrome level s.1) (is_chunk e.0))
+    (λ s e. regroup (has_members level members) (has_pattern level s.0.0) (has_syndrome level s.1) (is_chunk e.0) (has_delay s.0.0 s.0.1))
     ∙ ap₂ pairs
-    (filter_pairs f (suits level members) (has_syndrome level) bounds.patterns.items bounds.syndromes.items (λ p s. refl))
+    (filter_pairs f (suits level members) (has_syndrome level) rotations bounds.syndromes.items (λ r s. refl))
     (filter_pairs g is_chunk (λ o. true) bounds.chunks.items bounds.offsets.items (λ c o. and_true (is_chunk c))
     ∙ ap₂ pairs (filter_all is_chunk bounds.chunks.items powers) (filter_any bounds.offsets.items)))
 
@@ -141,7 +150,7 @@ sets_are plan block is_plan is_block =
     let n = length plan.lengths.items in
     let lists = lists_of block.space in
     let make = head_of block.level block.members in
-    let choices = pairs (pairs (filter (suits block.level block.members) plan.bounds.patterns.items) (filter (has_syndrome block.level) plan.bounds.syndromes.items)) (pairs plan.bounds.chunks.items plan.bounds.offsets.items) in
+    let choices = pairs (pairs (filter (suits block.level block.members) (pairs plan.bounds.patterns.items plan.bounds.delays.items)) (filter (has_syndrome block.level) plan.bounds.syndromes.items)) (pairs plan.bounds.chunks.items plan.bounds.offsets.items) in
     let are = heads_are plan.bounds block.level block.members is_plan.bounds.powers in
     ap (flat_map (sets_of_head n plan.bounds)) are
     ∙ flat_of_map (sets_of_head n plan.bounds) make choices
@@ -156,8 +165,8 @@ pub product_is : (plan : Plan) → sets_of plan ≡ flat_map (sets_with plan) (p
 unfolding sets_of sets_with heads_with
 product_is plan =
     let n = length plan.lengths.items in
-    let all : Level × ℕ → List Head = λ shape. flat_map (λ pattern. flat_map (λ syndrome. flat_map (λ chunk. map (λ offset. head_of shape.0 shape.1 ((pattern, syndrome), (chunk, offset)))
-    plan.bounds.offsets.items) plan.bounds.chunks.items) plan.bounds.syndromes.items) plan.bounds.patterns.items in
+    let all : Level × ℕ → List Head = λ shape. flat_map (λ pattern. flat_map (λ delay. flat_map (λ syndrome. flat_map (λ chunk. map (λ offset. head_of shape.0 shape.1 (((pattern, delay), syndrome), (chunk, offset)))
+    plan.bounds.offsets.items) plan.bounds.chunks.items) plan.bounds.syndromes.items) plan.bounds.delays.items) plan.bounds.patterns.items in
     let shapes = pairs plan.bounds.levels.items plan.bounds.members.items in
     ap (λ (heads : List Head). flat_map (sets_of_head n plan.bounds) (filter is_valid_head heads)) (sym (flat_pairs all plan.bounds.levels.items plan.bounds.members.items))
     ∙ ap (flat_map (sets_of_head n plan.bounds)) (filter_flat is_valid_head all shapes)

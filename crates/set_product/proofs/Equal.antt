@@ -85,32 +85,44 @@ same_heads a b h =
     let one = level_place a.level == level_place b.level in
     let two = a.members == b.members in
     let three = pattern_place a.pattern == pattern_place b.pattern in
+    let delays = a.delay == b.delay in
     let four = syndrome_place a.syndrome == syndrome_place b.syndrome in
     let five = a.chunk == b.chunk in
     let six = a.offset == b.offset in
-    let parts = and_parts (one && two) ((three && four) && (five && six)) h in
+    let parts = and_parts (one && two) (((three && delays) && four) && (five && six)) h in
     let first = and_parts one two parts.0 in
-    let rest = and_parts (three && four) (five && six) parts.1 in
-    let second = and_parts three four rest.0 in
+    let rest = and_parts ((three && delays) && four) (five && six) parts.1 in
+    let second = and_parts (three && delays) four rest.0 in
+    let rotation = and_parts three delays second.0 in
     let third = and_parts five six rest.1 in
     joined_head a b (same_level a.level b.level (eqb-true (level_place a.level) (level_place b.level) first.0)) (eqb-true a.members b.members first.1)
-    (same_pattern a.pattern b.pattern (eqb-true (pattern_place a.pattern) (pattern_place b.pattern) second.0))
+    (same_pattern a.pattern b.pattern (eqb-true (pattern_place a.pattern) (pattern_place b.pattern) rotation.0)) (eqb-true a.delay b.delay rotation.1)
     (same_syndrome a.syndrome b.syndrome (eqb-true (syndrome_place a.syndrome) (syndrome_place b.syndrome) second.1))
     (eqb-true a.chunk b.chunk third.0) (eqb-true a.offset b.offset third.1)
   where
-    joined_head : (x y : Head) → x.level ≡ y.level → x.members ≡ y.members → x.pattern ≡ y.pattern → x.syndrome ≡ y.syndrome → x.chunk ≡ y.chunk → x.offset ≡ y.offset → x ≡ y
-    joined_head x y e1 e2 e3 e4 e5 e6 =
-        ap₂ (λ (l : Level) (m : ℕ). let h : Head = record { level = l; members = m; pattern = x.pattern; syndrome = x.syndrome; chunk = x.chunk; offset = x.offset } in h) e1 e2
-        ∙ ap₂ (λ (p : Pattern) (s : Syndrome). let h : Head = record { level = y.level; members = y.members; pattern = p; syndrome = s; chunk = x.chunk; offset = x.offset } in h) e3 e4
-        ∙ ap₂ (λ (c o : ℕ). let h : Head = record { level = y.level; members = y.members; pattern = y.pattern; syndrome = y.syndrome; chunk = c; offset = o } in h) e5 e6
+    joined_head : (x y : Head) → x.level ≡ y.level → x.members ≡ y.members → x.pattern ≡ y.pattern → x.delay ≡ y.delay → x.syndrome ≡ y.syndrome → x.chunk ≡ y.chunk → x.offset ≡ y.offset → x ≡ y
+    joined_head x y e1 e2 e3 ed e4 e5 e6 =
+        ap₂ (λ (l : Level) (m : ℕ). let h : Head = record { level = l; members = m; pattern = x.pattern; delay = x.delay; syndrome = x.syndrome; chunk = x.chunk; offset = x.offset } in h) e1 e2
+        ∙ ap₂ (λ (p : Pattern) (d : ℕ). let h : Head = record { level = y.level; members = y.members; pattern = p; delay = d; syndrome = x.syndrome; chunk = x.chunk; offset = x.offset } in h) e3 ed
+        ∙ ap (λ (s : Syndrome). let h : Head = record { level = y.level; members = y.members; pattern = y.pattern; delay = y.delay; syndrome = s; chunk = x.chunk; offset = x.offset } in h) e4
+        ∙ ap₂ (λ (c o : ℕ). let h : Head = record { level = y.level; members = y.members; pattern = y.pattern; delay = y.delay; syndrome = y.syndrome; chunk = c; offset = o } in h) e5 e6
 
 heads_same : (a : Head) → is_same_head a a ≡ true
 heads_same a =
-    and_from (level_place a.level == level_place a.level && a.members == a.members) ((pattern_place a.pattern == pattern_place a.pattern && syndrome_place a.syndrome == syndrome_place a.syndrome) && (a.chunk == a.chunk && a.offset == a.offset))
-    (and_from (level_place a.level == level_place a.level) (a.members == a.members) (eq-eqb (level_place a.level) (level_place a.level) refl) (eq-eqb a.members a.members refl))
-    (and_from (pattern_place a.pattern == pattern_place a.pattern && syndrome_place a.syndrome == syndrome_place a.syndrome) (a.chunk == a.chunk && a.offset == a.offset)
-    (and_from (pattern_place a.pattern == pattern_place a.pattern) (syndrome_place a.syndrome == syndrome_place a.syndrome) (eq-eqb (pattern_place a.pattern) (pattern_place a.pattern) refl) (eq-eqb (syndrome_place a.syndrome) (syndrome_place a.syndrome) refl))
-    (and_from (a.chunk == a.chunk) (a.offset == a.offset) (eq-eqb a.chunk a.chunk refl) (eq-eqb a.offset a.offset refl)))
+    let level = level_place a.level == level_place a.level in
+    let members = a.members == a.members in
+    let pattern = pattern_place a.pattern == pattern_place a.pattern in
+    let delay = a.delay == a.delay in
+    let syndrome = syndrome_place a.syndrome == syndrome_place a.syndrome in
+    let chunk = a.chunk == a.chunk in
+    let offset = a.offset == a.offset in
+    and_from (level && members) (((pattern && delay) && syndrome) && (chunk && offset))
+    (and_from level members (eq-eqb (level_place a.level) (level_place a.level) refl) (eq-eqb a.members a.members refl))
+    (and_from ((pattern && delay) && syndrome) (chunk && offset)
+    (and_from (pattern && delay) syndrome
+    (and_from pattern delay (eq-eqb (pattern_place a.pattern) (pattern_place a.pattern) refl) (eq-eqb a.delay a.delay refl))
+    (eq-eqb (syndrome_place a.syndrome) (syndrome_place a.syndrome) refl))
+    (and_from chunk offset (eq-eqb a.chunk a.chunk refl) (eq-eqb a.offset a.offset refl)))
 
 pub same_sets : (a b : Geometry) → is_same_set a b ≡ true → a ≡ b
 same_sets a b h =

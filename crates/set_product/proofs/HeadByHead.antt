@@ -88,8 +88,8 @@ at_last plan opened next e =
 pub all_heads : (plan : Plan) → heads_after plan 0 ≡ heads plan.bounds
 unfolding heads_after heads_with shapes
 all_heads plan =
-    let all : Level × ℕ → List Head = λ shape. flat_map (λ pattern. flat_map (λ syndrome. flat_map (λ chunk. map (λ offset. head_of shape.0 shape.1 ((pattern, syndrome), (chunk, offset)))
-    plan.bounds.offsets.items) plan.bounds.chunks.items) plan.bounds.syndromes.items) plan.bounds.patterns.items in
+    let all : Level × ℕ → List Head = λ shape. flat_map (λ pattern. flat_map (λ delay. flat_map (λ syndrome. flat_map (λ chunk. map (λ offset. head_of shape.0 shape.1 (((pattern, delay), syndrome), (chunk, offset)))
+    plan.bounds.offsets.items) plan.bounds.chunks.items) plan.bounds.syndromes.items) plan.bounds.delays.items) plan.bounds.patterns.items in
     sym (filter_flat is_valid_head all (pairs plan.bounds.levels.items plan.bounds.members.items))
     ∙ ap (filter is_valid_head) (flat_pairs all plan.bounds.levels.items plan.bounds.members.items)
 

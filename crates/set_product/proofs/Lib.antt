@@ -8,4 +8,5 @@ pub mod Shaped
 pub mod Equal
 pub mod Ranked
 pub mod Uniqueness
+pub mod Rotations
 mod Counts

@@ -95,9 +95,37 @@ apart_first {A} t x xs k y r e = split (t y x) (position (t y) xs) (sym (positio
     split false None h = absurd (search rules)
     split false (Some n) h = (refl, (let same : suc n ≡ suc k = some_same (suc n) (suc k) h in ap (λ (m : ℕ). Some m) (let e : n ≡ k = omega arith in e)))
 
+-- the first element of a list is the same as itself
+own_first : {A : Type 0} (t : A → A → Bool) (x : A) (xs : List A) → Ranked t (x ∷ xs) → t x x ≡ true
+own_first {A} t x xs r = first (t x x) (position (t x) xs) (sym (position_step (t x) x xs) ∙ r 0 x refl)
+  where
+    first : (b : Bool) (o : Option ℕ) → cond b (Some 0) (option_map (λ n. suc n) o) ≡ Some 0 → b ≡ true
+    first true o h = refl
+    first false None h = absurd (search rules)
+    first false (Some n) h = absurd (let no : suc n ≡ 0 = some_same (suc n) 0 h in omega arith)
+
 pub each_of : {A : Type 0} (P : A → Type 0) (xs : List A) → ((k : ℕ) (x : A) → slice_get xs k ≡ Some x → P x) → AllByRecursion P xs
 each_of P [] h = tt
 each_of P (x ∷ xs) h = (h 0 x refl, each_of P xs (λ k y e. h (suc k) y e))
+
+joins_apart : {A : Type 0} (t : A → A → Bool) (x : A) (xs : List A) → t x x ≡ true → AllByRecursion (λ y. t y x ≡ false) xs → Ranked t xs → Ranked t (x ∷ xs)
+joins_apart {A} t x xs own apart r zero y e =
+    let same : x ≡ y = some_same x y e in
+    position_step (t y) x xs ∙ ap (λ (b : Bool). cond b (Some 0) (option_map (λ n. suc n) (position (t y) xs))) (ap (λ (z : A). t z x) (sym same) ∙ own)
+joins_apart {A} t x xs own apart r (suc i) y e =
+    position_step (t y) x xs ∙ ap₂ (λ (b : Bool) (o : Option ℕ). cond b (Some 0) (option_map (λ n. suc n) o)) (each_get (λ z. t z x ≡ false) xs i y apart e) (r i y e)
+
+-- what is kept stands once
+pub ranked_kept : {A : Type 0} (t : A → A → Bool) (p : A → Bool) (xs : List A) → Ranked t xs → Ranked t (filter p xs)
+ranked_kept t p [] r = λ i y e. absurd (let no : slice_get [] i ≡ Some y = e in search rules)
+ranked_kept {A} t p (x ∷ xs) r =
+    let rest = ranked_kept t p xs (λ k y at. (apart_first t x xs k y r at).1) in
+    let apart = each_of (λ y. t y x ≡ false) xs (λ k y at. (apart_first t x xs k y r at).0) in
+    elim (p x) as (λ b. Ranked t (cond b (x ∷ filter p xs) (filter p xs))) [
+      | true ↦ joins_apart t x (filter p xs) (own_first t x xs r)
+          (each_more (λ y. (t y x ≡ false) × (p y ≡ true)) (λ y. t y x ≡ false) (filter p xs) (λ y both. both.0) (each_kept (λ y. t y x ≡ false) p xs apart)) rest
+      | false ↦ rest
+    ]
 
 -- lists one after the other, where an element of one stands in no other
 pub ranked_flat : {S A : Type 0} (t : A → A → Bool) (u : S → S → Bool) (f : S → List A) (ss : List S) → Ranked u ss → AllByRecursion (λ s. Ranked t (f s)) ss →

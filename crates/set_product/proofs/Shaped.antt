@@ -11,7 +11,7 @@ use Rattle.raid_params.specs.declared.types.Head.{Head}
 use Rattle.raid_params.specs.declared.types.Level.{Level}
 use Rattle.raid_params.specs.Size.{redundancy}
 use Rattle.raid_params.specs.Slots.{empties, is_distinct, stands}
-use Rattle.raid_params.specs.Validity.{first_absent, first_repeat, has_members, has_pattern, has_syndrome, is_absent, is_chunk, is_met_again, is_shaped, is_valid_head, slots_fault}
+use Rattle.raid_params.specs.Validity.{first_absent, first_repeat, has_delay, has_members, has_pattern, has_syndrome, is_absent, is_chunk, is_met_again, is_shaped, is_valid_head, shape_fault, slots_fault}
 use Rattle.search_terms.specs.Product.{fits, heads, sets_of as sets_of_head}
 use Rattle.search_terms.specs.SlotLists.{all_lists}
 use Rattle.slot_math.proofs.Kept.{turned}
@@ -100,11 +100,13 @@ each_head plan is_plan =
     (each_flat P (λ l. Unit {0}) _ bounds.levels.items (λ level t.
     each_flat P (λ l. Unit {0}) _ bounds.members.items (λ members t.
     each_flat P (λ l. Unit {0}) _ bounds.patterns.items (λ pattern t.
+    each_flat P (λ l. Unit {0}) _ bounds.delays.items (λ delay t.
     each_flat P (λ l. Unit {0}) _ bounds.syndromes.items (λ syndrome t.
     each_flat P (λ l. Unit {0}) _ bounds.chunks.items (λ chunk t.
     each_map P _ bounds.offsets.items near)
     (each_any (λ l. Unit {0}) (λ l. tt) bounds.chunks.items))
     (each_any (λ l. Unit {0}) (λ l. tt) bounds.syndromes.items))
+    (each_any (λ l. Unit {0}) (λ l. tt) bounds.delays.items))
     (each_any (λ l. Unit {0}) (λ l. tt) bounds.patterns.items))
     (each_any (λ l. Unit {0}) (λ l. tt) bounds.members.items))
     (each_any (λ l. Unit {0}) (λ l. tt) bounds.levels.items))
@@ -150,16 +152,19 @@ shaped_set plan geo set =
     let n = length plan.lengths.items in
     let level = geo.head.level in
     let slots = geo.slots.items in
-    let head = and_parts (has_members geo.head.level geo.head.members) (has_pattern geo.head.level geo.head.pattern && (has_syndrome geo.head.level geo.head.syndrome && is_chunk geo.head.chunk)) set.head in
-    let rest = and_parts (has_pattern geo.head.level geo.head.pattern) (has_syndrome geo.head.level geo.head.syndrome && is_chunk geo.head.chunk) head.1 in
-    let last = and_parts (has_syndrome geo.head.level geo.head.syndrome) (is_chunk geo.head.chunk) rest.1 in
+    let head = and_parts (has_members geo.head.level geo.head.members) (has_pattern geo.head.level geo.head.pattern && (has_syndrome geo.head.level geo.head.syndrome && (is_chunk geo.head.chunk && has_delay geo.head.pattern geo.head.delay))) set.head in
+    let rest = and_parts (has_pattern geo.head.level geo.head.pattern) (has_syndrome geo.head.level geo.head.syndrome && (is_chunk geo.head.chunk && has_delay geo.head.pattern geo.head.delay)) head.1 in
+    let last = and_parts (has_syndrome geo.head.level geo.head.syndrome) (is_chunk geo.head.chunk && has_delay geo.head.pattern geo.head.delay) rest.1 in
+    let end = and_parts (is_chunk geo.head.chunk) (has_delay geo.head.pattern geo.head.delay) last.1 in
     let fit = and_parts (is_distinct geo.slots.items)
     (nat_le (empties geo.slots.items) (min plan.bounds.missing (redundancy geo.head.level)) && nat_le (length plan.lengths.items - (geo.head.members - empties geo.slots.items)) plan.bounds.foreign) set.fit in
     let few = leb-true (empties geo.slots.items) (min plan.bounds.missing (redundancy geo.head.level))
     (and_parts (nat_le (empties geo.slots.items) (min plan.bounds.missing (redundancy geo.head.level))) (nat_le (length plan.lengths.items - (geo.head.members - empties geo.slots.items)) plan.bounds.foreign) fit.1).0 in
-    no_rule (has_members geo.head.level (length geo.slots.items) && nat_eq geo.head.members (length geo.slots.items)) (has_pattern geo.head.level geo.head.pattern)
+    and_from (is_none (shape_fault geo (length plan.lengths.items))) (has_delay geo.head.pattern geo.head.delay)
+    (no_rule (has_members geo.head.level (length geo.slots.items) && nat_eq geo.head.members (length geo.slots.items)) (has_pattern geo.head.level geo.head.pattern)
     (has_syndrome geo.head.level geo.head.syndrome) (is_chunk geo.head.chunk) (slots_fault level n slots (first_absent n slots) (first_repeat slots))
     (Members geo.head.members) (BadPattern geo.head.pattern) (BadSyndrome geo.head.syndrome) (Chunk geo.head.chunk)
     (and_from (has_members geo.head.level (length geo.slots.items)) (nat_eq geo.head.members (length geo.slots.items)) (ap (has_members geo.head.level) set.long ∙ head.0) (eq-eqb geo.head.members (length geo.slots.items) (sym set.long)))
-    rest.0 last.0 last.1
-    (no_slots_fault level n slots (none_absent n slots set.images) (none_repeated slots fit.0) (omega arith))
+    rest.0 last.0 end.0
+    (no_slots_fault level n slots (none_absent n slots set.images) (none_repeated slots fit.0) (omega arith)))
+    end.1

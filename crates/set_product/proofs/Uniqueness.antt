@@ -30,7 +30,7 @@ use Rattle.set_product.proofs.BlockRanks.{block_heads, choices, other_head, set_
 use Rattle.set_product.proofs.Blocks.{head_of, product_is, set_of, sets_are, Choice}
 use Rattle.set_product.proofs.Equal.{same_sets}
 use Rattle.set_product.proofs.Pairs.{position_same, second_of}
-use Rattle.set_product.proofs.Ranked.{each_of, keys_of_kept, keys_of_rising, ranked_flat, ranked_keys, ranked_map, ranked_pairs, KeysDiffer, Ranked}
+use Rattle.set_product.proofs.Ranked.{each_of, keys_of_kept, keys_of_rising, ranked_flat, ranked_keys, ranked_kept, ranked_map, ranked_pairs, KeysDiffer, Ranked}
 use Rattle.set_product.proofs.Spaces.{of_plan}
 
 numbers_differ : (xs : List ℕ) → IsStrictlyIncreasing xs → KeysDiffer (λ n. n) xs
@@ -41,18 +41,22 @@ ranked_heads : (plan : Plan) (block : Block) → IsPlan plan → IsBlock plan bl
 ranked_heads plan block is_plan is_block =
     let make = head_of block.level block.members in
     let P : List Head → Type 0 = λ heads. Ranked is_same_head heads in
-    let patterns : KeysDiffer pattern_place block.patterns.items =
-    (let Q : List Pattern → Type 0 = λ ps. KeysDiffer pattern_place ps in
-    subst Q (sym is_block.patterns) (keys_of_kept pattern_place (suits block.level block.members) plan.bounds.patterns.items (keys_of_rising pattern_place plan.bounds.patterns.items is_plan.bounds.patterns.rising))) in
+    let u : Pattern × ℕ → Pattern × ℕ → Bool = λ a b. pattern_place a.0 == pattern_place b.0 && a.1 == b.1 in
+    let rotations : Ranked (λ a b. pattern_place a.0 == pattern_place b.0 && a.1 == b.1) block.rotations.items =
+    (let Q : List (Pattern × ℕ) → Type 0 = λ rs. Ranked u rs in
+    subst Q (sym is_block.rotations) (ranked_kept u (suits block.level block.members) (pairs plan.bounds.patterns.items plan.bounds.delays.items)
+    (ranked_pairs (λ a b. pattern_place a == pattern_place b) (λ a b. a == b) plan.bounds.patterns.items plan.bounds.delays.items
+    (ranked_keys pattern_place plan.bounds.patterns.items (keys_of_rising pattern_place plan.bounds.patterns.items is_plan.bounds.patterns.rising))
+    (ranked_keys (λ n. n) plan.bounds.delays.items (numbers_differ plan.bounds.delays.items is_plan.bounds.delays.rising))))) in
     let syndromes : KeysDiffer syndrome_place block.syndromes.items =
     (let Q : List Syndrome → Type 0 = λ ss. KeysDiffer syndrome_place ss in
     subst Q (sym is_block.syndromes) (keys_of_kept syndrome_place (has_syndrome block.level) plan.bounds.syndromes.items (keys_of_rising syndrome_place plan.bounds.syndromes.items is_plan.bounds.syndromes.rising))) in
-    let t : Choice → Choice → Bool = λ c d. (pattern_place c.0.0 == pattern_place d.0.0 && syndrome_place c.0.1 == syndrome_place d.0.1) && (c.1.0 == d.1.0 && c.1.1 == d.1.1) in
-    let of_choices : Ranked (λ c d. (pattern_place c.0.0 == pattern_place d.0.0 && syndrome_place c.0.1 == syndrome_place d.0.1) && (c.1.0 == d.1.0 && c.1.1 == d.1.1)) (choices plan block) =
-    ranked_pairs (λ c d. pattern_place c.0 == pattern_place d.0 && syndrome_place c.1 == syndrome_place d.1) (λ c d. c.0 == d.0 && c.1 == d.1)
-    (pairs block.patterns.items block.syndromes.items) (pairs plan.bounds.chunks.items plan.bounds.offsets.items)
-    (ranked_pairs (λ a b. pattern_place a == pattern_place b) (λ a b. syndrome_place a == syndrome_place b) block.patterns.items block.syndromes.items
-    (ranked_keys pattern_place block.patterns.items patterns) (ranked_keys syndrome_place block.syndromes.items syndromes))
+    let t : Choice → Choice → Bool = λ c d. ((pattern_place c.0.0.0 == pattern_place d.0.0.0 && c.0.0.1 == d.0.0.1) && syndrome_place c.0.1 == syndrome_place d.0.1) && (c.1.0 == d.1.0 && c.1.1 == d.1.1) in
+    let of_choices : Ranked (λ c d. ((pattern_place c.0.0.0 == pattern_place d.0.0.0 && c.0.0.1 == d.0.0.1) && syndrome_place c.0.1 == syndrome_place d.0.1) && (c.1.0 == d.1.0 && c.1.1 == d.1.1)) (choices plan block) =
+    ranked_pairs (λ c d. (pattern_place c.0.0 == pattern_place d.0.0 && c.0.1 == d.0.1) && syndrome_place c.1 == syndrome_place d.1) (λ c d. c.0 == d.0 && c.1 == d.1)
+    (pairs block.rotations.items block.syndromes.items) (pairs plan.bounds.chunks.items plan.bounds.offsets.items)
+    (ranked_pairs (λ a b. pattern_place a.0 == pattern_place b.0 && a.1 == b.1) (λ a b. syndrome_place a == syndrome_place b) block.rotations.items block.syndromes.items
+    rotations (ranked_keys syndrome_place block.syndromes.items syndromes))
     (ranked_pairs (λ a b. a == b) (λ a b. a == b) plan.bounds.chunks.items plan.bounds.offsets.items
     (ranked_keys (λ n. n) plan.bounds.chunks.items (numbers_differ plan.bounds.chunks.items is_plan.bounds.chunks.rising)) (ranked_keys (λ n. n) plan.bounds.offsets.items (numbers_differ plan.bounds.offsets.items is_plan.bounds.offsets.rising))) in
     subst P (sym (block_heads plan block is_plan is_block))
@@ -76,11 +80,11 @@ some_block plan level count is_plan few = (
   record {
     level = level;
     members = count;
-    patterns = record { items = filter (suits level count) plan.bounds.patterns.items };
+    rotations = record { items = filter (suits level count) (pairs plan.bounds.patterns.items plan.bounds.delays.items) };
     syndromes = record { items = filter (has_syndrome level) plan.bounds.syndromes.items };
     space = space_of plan level count;
   },
-  record { patterns = refl; syndromes = refl; space = of_plan plan level count is_plan few; space_is = refl },
+  record { rotations = refl; syndromes = refl; space = of_plan plan level count is_plan few; space_is = refl },
   refl,
   refl,
 )
@@ -114,11 +118,13 @@ each_own plan shape =
     (each_any (λ l. (head.level ≡ shape.0) × (head.members ≡ shape.1)) (λ l. known.0) (filter (fits n bounds head) (all_lists n head.members))))
     (each_kept P is_valid_head _
     (each_flat P (λ l. Unit {0}) _ bounds.patterns.items (λ pattern t.
+    each_flat P (λ l. Unit {0}) _ bounds.delays.items (λ delay t.
     each_flat P (λ l. Unit {0}) _ bounds.syndromes.items (λ syndrome t.
     each_flat P (λ l. Unit {0}) _ bounds.chunks.items (λ chunk t.
     each_map P _ bounds.offsets.items (each_any (λ l. (shape.0 ≡ shape.0) × (shape.1 ≡ shape.1)) (λ l. (refl, refl)) bounds.offsets.items))
     (each_any (λ l. Unit {0}) (λ l. tt) bounds.chunks.items))
     (each_any (λ l. Unit {0}) (λ l. tt) bounds.syndromes.items))
+    (each_any (λ l. Unit {0}) (λ l. tt) bounds.delays.items))
     (each_any (λ l. Unit {0}) (λ l. tt) bounds.patterns.items)))
 
 -- a set of another level or number of members is not among them

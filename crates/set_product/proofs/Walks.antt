@@ -39,7 +39,8 @@ split_at [] at x e = absurd (search rules)
 split_at (y ∷ xs) zero x e = let same : y ≡ x = search rules in ap (λ z. z ∷ xs) same
 split_at {A} (y ∷ xs) (suc at) x e = ap (λ (l : List A). y ∷ l) (split_at xs at x e)
 
-take_next : {A : Type 0} (xs : List A) (at : ℕ) (x : A) → slice_get xs at ≡ Some x → take (suc at) xs ≡ take at xs ++ x ∷ []
+-- the elements up to one more
+pub take_next : {A : Type 0} (xs : List A) (at : ℕ) (x : A) → slice_get xs at ≡ Some x → take (suc at) xs ≡ take at xs ++ x ∷ []
 take_next [] at x e = absurd (search rules)
 take_next {A} (y ∷ xs) zero x e = let same : y ≡ x = search rules in ap (λ (z : A). z ∷ []) same
 take_next {A} (y ∷ xs) (suc at) x e = ap (λ (l : List A). y ∷ l) (take_next xs at x e)

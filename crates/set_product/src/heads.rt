@@ -96,7 +96,7 @@ fn skip_heads(
 
 impl<'a> Heads<'a> {
     /// The heads of a plan, each once: every combination of its levels, numbers of members, patterns,
-    /// orders of Q, chunks and offsets that makes sense.
+    /// delays, orders of Q, chunks and offsets that makes sense.
     #[tactic(auto, using(crate::proofs::HeadByHead::all_heads, crate::proofs::HeadByHead::all_counted))]
     pub fn of(plan: &'a Plan) -> Heads<'a>
         requires plan { IsPlan plan.now }

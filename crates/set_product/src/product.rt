@@ -53,7 +53,7 @@ pub fn product_total(plan: &Plan) -> Option<u64>
 }
 
 /// The parameter set of this rank, counted from 0: the levels of the plan in their order, then the
-/// numbers of members, the patterns, the orders of Q, the chunks, the offsets, and the slot lists.
+/// numbers of members, the patterns, the delays, the orders of Q, the chunks, the offsets, and the slot lists.
 pub fn product_set(plan: &Plan, rank: u64) -> Geometry
     requires plan { IsPlan plan.now }
     requires few { total_of plan.now < 2 ^ 64 }

@@ -88,6 +88,7 @@ fn copy_of_bounds(bounds: &Bounds) -> Bounds
         levels: copy_of(&bounds.levels),
         members: copy_of(&bounds.members),
         patterns: copy_of(&bounds.patterns),
+        delays: copy_of(&bounds.delays),
         syndromes: copy_of(&bounds.syndromes),
         chunks: copy_of(&bounds.chunks),
         offsets: copy_of(&bounds.offsets),

@@ -1,7 +1,7 @@
 -- How long the text of a plan is at most.
 use Rattle.std.proofs.Common.{◌≡◌, ℕ, zero, suc, ◌+◌, ◌*◌, ◌^◌, ◌<◌, ◌≤◌, List, [], ◌∷◌, ◌++◌, Bool, true, false, cond, length, map, codes, decimal, refl, ap, ◌∙◌, arith, All, IfSome, IsSomeAnd, Option, None, Some, slice_get, lit≤, lit<}
 use Rattle.std.specs.Prelude.{count_by, ◌==◌}
-use Rattle.std.specs.List.{flat_map, join_with_byte}
+use Rattle.std.specs.List.{AllByRecursion, flat_map, join_with_byte}
 use Rattle.std.proofs.lemmas.Fmt.{length-decimal-le}
 use Rattle.std.proofs.lemmas.List.{length-append, length-map}
 use Rattle.std.proofs.lemmas.List.Concat.{flat_map-append}
@@ -32,7 +32,7 @@ use Rattle.search_scope.specs.declared.scope.Limits.{Limits}
 use Rattle.value_text.specs.Spelling.{level_name, pattern_name, syndrome_name, commas, named, line}
 use Rattle.landmark_text.specs.Names.{group_name, kind_name}
 use Rattle.value_text.proofs.Fits.{chunks_are_short, chunks_fit, levels_fit, members_fit, patterns_fit, syndromes_fit}
-use Rattle.plan_text.specs.PlanText.{bounds_line, bounds_lines, group_lines, groups_lines, image_lines, mark_line, mode_line, mode_lines, rule_text, search_lines, some_bounds, version_lines, version_number}
+use Rattle.plan_text.specs.PlanText.{bounds_line, bounds_lines, counts_lines, delays_line, delays_lines, group_lines, groups_lines, image_lines, mark_line, mode_line, mode_lines, rule_text, says_more, search_lines, sizes_lines, some_delays, syndromes_line, version_lines, version_number}
 use Rattle.survey_job.specs.Laws.{NoPlanIsTooLong}
 
 -- ---- numbers and names
@@ -183,7 +183,22 @@ images_short lengths are =
 members_short : (ns : List ℕ) → All (λ n. (2 ≤ n) × (n ≤ 24)) ns → All (λ n. n < 2 ^ 64) ns
 members_short ns all = All-weaker (λ n. (2 ≤ n) × (n ≤ 24)) (λ n. n < 2 ^ 64) (λ n is. let top = is.1 in omega arith) ns all
 
-search_short : (end : ℕ) (bounds : Bounds) (limits : Limits) (tests : MarkTests) → end < 2 ^ 55 → AreBounds bounds → AreLimits limits → AreTests tests → size (search_lines end bounds limits tests) ≤ 14 * 1401
+-- with a line of delays and without
+abbrev orders_by : Bool → List ℕ → List Syndrome → List (List ℕ)
+orders_by b delays syndromes = delays_lines b delays ++ syndromes_line syndromes ∷ []
+
+orders_short : (b : Bool) (delays : List ℕ) (syndromes : List Syndrome) (rest : List (List ℕ)) → IsShortLine (delays_line delays) → AllByRecursion IsShortLine (syndromes_line syndromes ∷ rest) → AllByRecursion IsShortLine (orders_by b delays syndromes ++ rest)
+orders_short true delays syndromes rest line all = (line, all)
+orders_short false delays syndromes rest line all = all
+
+few_orders : (b : Bool) (delays : List ℕ) (syndromes : List Syndrome) (rest : List (List ℕ)) → length (orders_by b delays syndromes ++ rest) ≤ length rest + 2
+few_orders true delays syndromes rest = omega arith
+few_orders false delays syndromes rest = omega arith
+
+delays_near : (ns : List ℕ) → All (λ n. (1 ≤ n) × (n ≤ 1024)) ns → All (λ n. n < 2 ^ 64) ns
+delays_near ns all = All-weaker (λ n. (1 ≤ n) × (n ≤ 1024)) (λ n. n < 2 ^ 64) (λ n is. let top = is.1 in omega arith) ns all
+
+search_short : (end : ℕ) (bounds : Bounds) (limits : Limits) (tests : MarkTests) → end < 2 ^ 55 → AreBounds bounds → AreLimits limits → AreTests tests → size (search_lines end bounds limits tests) ≤ 15 * 1401
 search_short end bounds limits tests near are_bounds are_limits are_tests =
     let levels = levels_fit bounds.levels.items are_bounds.levels in
     let members = members_fit bounds.members.items are_bounds.members are_bounds.few_members in
@@ -192,7 +207,10 @@ search_short end bounds limits tests near are_bounds are_limits are_tests =
     let chunks = chunks_fit bounds.chunks.items are_bounds.chunks are_bounds.powers in
     let missing = are_bounds.missing in
     let foreign = are_bounds.foreign in
-    size_short (search_lines end bounds limits tests)
+    let few_delays = are_bounds.few_delays in
+    let rest = sizes_lines bounds tests ++ counts_lines bounds limits tests in
+    let few = few_orders (some_delays bounds.delays.items) bounds.delays.items bounds.syndromes.items rest in
+    let short = size_short (search_lines end bounds limits tests)
     (All-from_recursion IsShortLine (search_lines end bounds limits tests) (
       short_line (codes "end") end (lit≤ tt) (far end near),
       (
@@ -201,27 +219,30 @@ search_short end bounds limits tests near are_bounds are_limits are_tests =
           numbers_line (codes "members") bounds.members.items (lit≤ tt) (omega arith) (members_short bounds.members.items are_bounds.few_members),
           (
             names_line (codes "patterns") pattern_name bounds.patterns.items (lit≤ tt) (omega arith) pattern_short,
-            (
-              names_line (codes "syndromes") syndrome_name bounds.syndromes.items (lit≤ tt) (omega arith) syndrome_short,
-              (
-                numbers_line (codes "chunks") bounds.chunks.items (lit≤ tt) (omega arith) (chunks_are_short bounds.chunks.items are_bounds.powers),
-                (
-                  numbers_line (codes "offsets") bounds.offsets.items (lit≤ tt) are_bounds.few_offsets (all_far bounds.offsets.items are_bounds.near_offsets),
+            orders_short (some_delays bounds.delays.items) bounds.delays.items bounds.syndromes.items rest
+                (numbers_line (codes "delays") bounds.delays.items (lit≤ tt) (omega arith) (delays_near bounds.delays.items are_bounds.short_delays)) (
+                  names_line (codes "syndromes") syndrome_name bounds.syndromes.items (lit≤ tt) (omega arith) syndrome_short,
                   (
-                    numbers_line (codes "origins") tests.origins.items (lit≤ tt) are_tests.few_origins (all_far tests.origins.items are_tests.near_origins),
+                    numbers_line (codes "chunks") bounds.chunks.items (lit≤ tt) (omega arith) (chunks_are_short bounds.chunks.items are_bounds.powers),
                     (
-                      short_line (codes "missing") bounds.missing (lit≤ tt) (omega arith),
+                      numbers_line (codes "offsets") bounds.offsets.items (lit≤ tt) are_bounds.few_offsets (all_far bounds.offsets.items are_bounds.near_offsets),
                       (
-                        short_line (codes "foreign") bounds.foreign (lit≤ tt) (omega arith),
+                        numbers_line (codes "origins") tests.origins.items (lit≤ tt) are_tests.few_origins (all_far tests.origins.items are_tests.near_origins),
                         (
-                          short_line (codes "badrows") limits.badrows (lit≤ tt) (far limits.badrows are_limits.badrows),
+                          short_line (codes "missing") bounds.missing (lit≤ tt) (omega arith),
                           (
-                            short_line (codes "window") limits.window (lit≤ tt) (far limits.window are_limits.window),
+                            short_line (codes "foreign") bounds.foreign (lit≤ tt) (omega arith),
                             (
-                              short_line (codes "misfits") tests.misfits (lit≤ tt) (far tests.misfits are_tests.misfits),
+                              short_line (codes "badrows") limits.badrows (lit≤ tt) (far limits.badrows are_limits.badrows),
                               (
-                                short_line (codes "least") tests.least (lit≤ tt) (far tests.least are_tests.least),
-                                tt,
+                                short_line (codes "window") limits.window (lit≤ tt) (far limits.window are_limits.window),
+                                (
+                                  short_line (codes "misfits") tests.misfits (lit≤ tt) (far tests.misfits are_tests.misfits),
+                                  (
+                                    short_line (codes "least") tests.least (lit≤ tt) (far tests.least are_tests.least),
+                                    tt,
+                                  ),
+                                ),
                               ),
                             ),
                           ),
@@ -230,12 +251,11 @@ search_short end bounds limits tests near are_bounds are_limits are_tests =
                     ),
                   ),
                 ),
-              ),
-            ),
           ),
         ),
       ),
-    ))
+    )) in
+    omega (arith, short, few)
 
 -- ---- marks
 
@@ -383,7 +403,7 @@ groups_short lengths groups all are =
 
 -- ---- the plan
 
-version_small : (each own : Bool) → version_number each own < 2 ^ 64
+version_small : (each third : Bool) → version_number each third < 2 ^ 64
 version_small each true = lit< tt
 version_small true false = lit< tt
 version_small false false = lit< tt
@@ -392,18 +412,18 @@ mode_short : (each : Bool) → length (mode_line each) ≤ 11
 mode_short true = lit≤ tt
 mode_short false = lit≤ tt
 
-mode_size : (each own : Bool) → size (mode_lines each own) ≤ 12
+mode_size : (each third : Bool) → size (mode_lines each third) ≤ 12
 mode_size each true = omega (arith, size_cons (mode_line each) [], size_none, mode_short each)
 mode_size each false = omega (arith, size_none)
 
-version_size : (each own : Bool) → size (version_lines each own) ≤ 53
-version_size each own =
+version_size : (each third : Bool) → size (version_lines each third) ≤ 53
+version_size each third =
     omega (
       arith,
-      size_cons (named (codes "reraid-plan") (decimal (version_number each own))) (mode_lines each own),
-      length-append (codes "reraid-plan") (32 ∷ decimal (version_number each own)),
-      short_number (version_number each own) (version_small each own),
-      mode_size each own,
+      size_cons (named (codes "reraid-plan") (decimal (version_number each third))) (mode_lines each third),
+      length-append (codes "reraid-plan") (32 ∷ decimal (version_number each third)),
+      short_number (version_number each third) (version_small each third),
+      mode_size each third,
     )
 
 end_near : (lengths : List ℕ) (end : ℕ) → AreLengths lengths → All (λ n. end ≤ n) lengths → end < 2 ^ 55
@@ -416,12 +436,13 @@ no_plan_is_too_long plan is =
     let images = image_lines plan.lengths.items in
     let search = search_lines plan.end plan.bounds plan.limits plan.tests in
     let groups = groups_lines plan.groups in
+    let third = says_more (some_delays plan.bounds.delays.items) plan.groups in
     omega (
       arith,
-      size_append (version_lines plan.each (some_bounds plan.groups)) (images ++ (search ++ groups)),
+      size_append (version_lines plan.each third) (images ++ (search ++ groups)),
       size_append images (search ++ groups),
       size_append search groups,
-      version_size plan.each (some_bounds plan.groups),
+      version_size plan.each third,
       images_short plan.lengths.items is.lengths,
       search_short plan.end plan.bounds plan.limits plan.tests (end_near plan.lengths.items plan.end is.lengths is.ends) is.bounds is.limits is.tests,
       groups_short plan.lengths.items plan.groups is.lengths.short is.groups,

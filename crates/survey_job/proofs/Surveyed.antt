@@ -25,7 +25,13 @@ use Rattle.run_ends.specs.declared.stop.Refusal.TheVariants.{Images}
 use Rattle.run_ends.specs.declared.stop.Stop.TheVariants.{SourceFault, OutFault}
 use Rattle.plan_text.specs.Parts.{AreMembers}
 use Rattle.plan_text.specs.PlanText.{plan_text}
-use Rattle.survey_engine.specs.Surveys.{survey_reads as reads_of, IsSurveyable}
+use Rattle.landmark_rules.specs.declared.marks.Group.{Group}
+use Rattle.raid_params.specs.declared.types.Bounds.{Bounds}
+use Rattle.search_plan.specs.declared.plan.Plan.{Plan}
+use Rattle.search_scope.specs.declared.scope.Limits.{Limits}
+use Rattle.survey_engine.specs.Origins.{origins_of}
+use Rattle.survey_engine.specs.Owners.{groups_of}
+use Rattle.survey_engine.specs.Surveys.{Adds, Repeats, found_in, survey_reads as reads_of, IsSurveyable}
 use Rattle.survey_engine.specs.declared.ask.Ask.{Ask}
 use Rattle.asked_values.proofs.Asked.{as_asked, window_is}
 use Rattle.asked_values.specs.Asked.{members_for}
@@ -134,6 +140,40 @@ pub text_told : (asked : SurveyWords) (names end : ℕ) (attached : List Image) 
 text_told asked names end attached told answer ask same is h =
     told_text asked names attached told answer
     (subst (λ (a : Ask). IfOk answer (λ text. IfSome told (λ bytes. text ≡ plan_text (survey_plan a attached bytes)))) (is ∙ ap (ask_of asked names) same) h)
+
+plan_with : List ℕ → ℕ → Bounds → Limits → List ℕ → ℕ → ℕ → List Group → Bool → Plan
+plan_with lengths end bounds limits origins misfits least groups each = record {
+  lengths = record { items = lengths };
+  end = end;
+  bounds = bounds;
+  limits = limits;
+  tests = record { origins = record { items = origins }; misfits = misfits; least = least };
+  groups = groups;
+  each = each;
+}
+
+-- the plan that repeats what was asked and adds what was found
+survey_is : (ask : Ask) (attached : List Image) (bytes : List (List ℕ)) (plan : Plan) → Repeats ask attached plan → Adds ask attached bytes plan → plan ≡ survey_plan ask attached bytes
+unfolding plan_with
+survey_is ask attached bytes plan repeats adds =
+    let lengths = repeats.lengths in
+    let end = repeats.end in
+    let bounds = repeats.bounds in
+    let limits = repeats.limits in
+    let misfits = repeats.misfits in
+    let least = repeats.least in
+    let each = repeats.each in
+    let groups = adds.groups in
+    let origins = adds.origins in
+    let same : plan_with plan.lengths.items plan.end plan.bounds plan.limits plan.tests.origins.items plan.tests.misfits plan.tests.least plan.groups plan.each
+    ≡ plan_with (lengths_of attached) ask.end ask.bounds ask.limits (origins_of ask.tests.origins.items (lengths_of attached) bytes (found_in ask attached bytes)) ask.tests.misfits ask.tests.least (groups_of ask.kinds (found_in ask attached bytes)) ask.each = cc in
+    same
+
+-- and its text
+pub plan_told : (ask : Ask) (attached : List Image) (told : Option (List (List ℕ))) (plan : Plan) (text : List ℕ) → Repeats ask attached plan → IfSome told (λ bytes. Adds ask attached bytes plan) → text ≡ plan_text plan →
+    IfSome told (λ bytes. text ≡ plan_text (survey_plan ask attached bytes))
+plan_told ask attached None plan text repeats adds is = tt
+plan_told ask attached (Some bytes) plan text repeats adds is = is ∙ ap plan_text (survey_is ask attached bytes plan repeats adds)
 
 -- what is read where the images are not refused: each of them is attached
 pub read_for : (asked : SurveyWords) (names end : ℕ) (old new : Seen) (ask : Ask) → survey_fault asked names old.attached ≡ None → length old.attached ≡ min names 65536 → end ≡ end_of asked.end old.attached → ask ≡ ask_of asked names end →

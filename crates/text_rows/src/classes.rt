@@ -29,6 +29,18 @@ const ONE_CLASS: &[u8] =
 const TWO_CLASSES: &[u8] =
     b"0 6:ls:after-q:1:0:-,-,0,1\n1 6:ls:by-slot:1:0:-,-,0,1\nclasses 2 of 2\n";
 
+/// Two delays: parity moves on before the third row, or before the fourth. The third set keeps it for as many rows as the first.
+const TWO_DELAYS: &[u8] =
+    b"0 5:la*2:none:1:0:0,1,2\n1 5:la*3:none:1:0:0,1,2\n2 5:la*2:none:1:0:0,1,2\n";
+
+/// Their classes over two rows.
+const ALIKE_SO_FAR: &[u8] =
+    b"0 5:la*2:none:1:0:0,1,2\n0 5:la*3:none:1:0:0,1,2\n0 5:la*2:none:1:0:0,1,2\nclasses 1 of 3\n";
+
+/// Their classes over three rows, and over more.
+const ALIKE_NO_MORE: &[u8] =
+    b"0 5:la*2:none:1:0:0,1,2\n1 5:la*3:none:1:0:0,1,2\n0 5:la*2:none:1:0:0,1,2\nclasses 2 of 3\n";
+
 /// Compares the answer for a list.
 fn compare<R: Abort>(
     rt: &R,
@@ -56,6 +68,13 @@ fn sets_are_put_into_classes(rt: HostRuntime) -> Result<(), Fail> {
 fn the_third_row_tells_two_orders_of_q_apart(rt: HostRuntime) -> Result<(), Fail> {
     compare(&rt, rt.alloc(), TWO_ORDERS, 2, 2, ONE_CLASS)?;
     compare(&rt, rt.alloc(), TWO_ORDERS, 2, 3, TWO_CLASSES)
+}
+
+#[test]
+fn two_delays_are_alike_until_one_moves_parity(rt: HostRuntime) -> Result<(), Fail> {
+    compare(&rt, rt.alloc(), TWO_DELAYS, 3, 2, ALIKE_SO_FAR)?;
+    compare(&rt, rt.alloc(), TWO_DELAYS, 3, 3, ALIKE_NO_MORE)?;
+    compare(&rt, rt.alloc(), TWO_DELAYS, 3, 1_000_000, ALIKE_NO_MORE)
 }
 
 #[test]

@@ -16,6 +16,7 @@ fn one_missing() -> Wide {
         level: Level::Raid6,
         members: 4,
         pattern: Pattern::La,
+        delay: 1,
         syndrome: Syndrome::ByData,
         chunk: 128,
         offset: 2048,
@@ -41,6 +42,18 @@ fn a_set(rt: HostRuntime) -> Result<(), Fail> {
 fn where_the_next_page_begins(rt: HostRuntime) -> Result<(), Fail> {
     let next = json_next(rt.alloc(), 8, 18)?;
     assert!(rt; next.as_slice() == b"{\"next\":8,\"total\":18}\n".as_slice());
+    Ok(())
+}
+
+/// The line of a set whose parity stays for 16 rows: md has no name for its layout.
+const DELAYED: &[u8] =
+    b"{\"chunk\":128,\"level\":5,\"name\":null,\"offset\":2048,\"pattern\":\"la*16\",\"rank\":3,\"slots\":[0,1,2],\"syndrome\":\"none\"}\n";
+
+#[test]
+fn a_set_with_a_delay(rt: HostRuntime) -> Result<(), Fail> {
+    let set = read_set(b"5:la*16:none:128:2048:0,1,2").ok_or("a set")?;
+    let line = json_line(rt.alloc(), 3, &set)?;
+    assert!(rt; line.as_slice() == DELAYED);
     Ok(())
 }
 

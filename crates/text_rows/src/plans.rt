@@ -155,6 +155,7 @@ fn one_missing() -> Wide {
         level: Level::Raid6,
         members: 4,
         pattern: Pattern::NRestart,
+        delay: 1,
         syndrome: Syndrome::BySlot,
         chunk: 128,
         offset: 2048,
@@ -202,14 +203,17 @@ fn a_set_is_read(rt: HostRuntime) -> Result<(), Fail> {
     Ok(())
 }
 
-/// The words of the sets of three images in three slots.
-static ORDERS: [&[u8]; 6] = [
+/// The words of the sets of three images in three slots, and of sets whose parity stays for some rows.
+static ORDERS: [&[u8]; 9] = [
     b"5:ls:none:1:0:0,1,2",
     b"5:ls:none:1:0:0,2,1",
     b"5:ls:none:1:0:1,0,2",
     b"5:ls:none:1:0:1,2,0",
     b"5:ls:none:1:0:2,0,1",
     b"5:ls:none:1:0:2,1,0",
+    b"5:la*16:none:128:2048:0,1,2",
+    b"5:parity-last*2:none:1:0:0,1,2",
+    b"6:ls-6*4294967295:by-data:8:0:0,-,1,2",
 ];
 
 /// The word of the set that a word stands for.
@@ -230,7 +234,7 @@ fn sets_are_written_as_they_were_read(rt: HostRuntime) -> Result<(), Fail> {
 }
 
 /// Words that are no sets.
-static OTHER_WORDS: [&[u8]; 7] = [
+static OTHER_WORDS: [&[u8]; 16] = [
     b"5:ls:none:0128:0:0,1,2",
     b"5:ls:none:4294967296:0:0,1,2",
     b"5:ls:none:128:0:0,1,24",
@@ -238,7 +242,28 @@ static OTHER_WORDS: [&[u8]; 7] = [
     b"5:ls:none:128:0:",
     b"5:ls:none:128:0:0,1,2 ",
     b"5:left:none:128:0:0,1,2",
+    b"5:la*1:none:128:0:0,1,2",
+    b"5:la*0:none:128:0:0,1,2",
+    b"5:la*:none:128:0:0,1,2",
+    b"5:la*016:none:128:0:0,1,2",
+    b"5:la*4294967296:none:128:0:0,1,2",
+    b"5:la**16:none:128:0:0,1,2",
+    b"5:la*16*2:none:128:0:0,1,2",
+    b"5:*16:none:128:0:0,1,2",
+    b"5:la *16:none:128:0:0,1,2",
 ];
+
+#[test]
+fn a_set_has_its_delay(rt: HostRuntime) -> Result<(), Fail> {
+    let read = read_set(b"5:la*16:none:128:2048:0,1,2");
+    assert!(rt;
+        read.is_some_and(|set| set.geo.head.delay == 16
+            && matches!(set.geo.head.pattern, Pattern::La))
+    );
+    let read = read_set(b"5:la:none:128:2048:0,1,2");
+    assert!(rt; read.is_some_and(|set| set.geo.head.delay == 1));
+    Ok(())
+}
 
 #[test]
 fn other_words_are_refused(rt: HostRuntime) -> Result<(), Fail> {

@@ -90,6 +90,22 @@ const BOUNDED_GROUPS: &[u8] =
 const BOUNDED_APART: &[u8] =
     b"reraid-plan 3\nmode each\nimages 3\nlength 3\nlength 3\nlength 3\nend 3\nlevels 5\nmembers 3\npatterns ls\nsyndromes none\nchunks 1\noffsets 0,1\norigins 0\nmissing 0\nforeign 0\nbadrows 0\nwindow 2\nmisfits 0\nleast 1\ngroup gpt\nbounds 0 3\ndone\n";
 
+/// A plan in which parity may stay for some rows, without groups: nothing else asks for version 3.
+const DELAYED: &[u8] =
+    b"reraid-plan 3\nmode common\nimages 1\nlength 5000\nend 5000\nlevels 5\nmembers 3\npatterns la,ls\ndelays 1,16\nsyndromes none\nchunks 8\noffsets 0\norigins 0\nmissing 1\nforeign 1\nbadrows 0\nwindow 1\nmisfits 0\nleast 1\ndone\n";
+
+/// The same where each image has an offset of its own, parity stays for the most rows, and a group has bounds of its own.
+const DELAYED_APART: &[u8] =
+    b"reraid-plan 3\nmode each\nimages 1\nlength 5000\nend 5000\nlevels 5\nmembers 3\npatterns la,ls\ndelays 1024\nsyndromes none\nchunks 8\noffsets 0\norigins 0\nmissing 1\nforeign 0\nbadrows 0\nwindow 1\nmisfits 0\nleast 1\ngroup xfs\ngroup lvm\nbounds 7 2\nmark lvm 0 3 at:1\ndone\n";
+
+/// The lines of a plan of version 3 up to its patterns: eight.
+const UP_TO_PATTERNS: &[u8] =
+    b"reraid-plan 3\nmode common\nimages 1\nlength 5000\nend 5000\nlevels 5\nmembers 3\npatterns la,ls\n";
+
+/// What follows the delays, up to the groups: ten lines.
+const PAST_DELAYS: &[u8] =
+    b"syndromes none\nchunks 8\noffsets 0\norigins 0\nmissing 1\nforeign 1\nbadrows 0\nwindow 1\nmisfits 0\nleast 1\n";
+
 /// The text of a plan of version 3 with these groups.
 fn with_groups(alloc: Global, groups: &[u8]) -> Result<Text, Fail> {
     let mut text = Text::new(alloc);
@@ -112,6 +128,8 @@ fn all_versions_are_read_and_written(rt: HostRuntime) -> Result<(), Fail> {
     compare_again(&rt, rt.alloc(), APART, true)?;
     compare_again(&rt, rt.alloc(), LATER_GROUPS, false)?;
     compare_again(&rt, rt.alloc(), BOUNDED_APART, true)?;
+    compare_again(&rt, rt.alloc(), DELAYED, false)?;
+    compare_again(&rt, rt.alloc(), DELAYED_APART, true)?;
     let text = with_groups(rt.alloc(), BOUNDED_GROUPS)?;
     compare_again(&rt, rt.alloc(), text.as_slice(), false)
 }
@@ -138,8 +156,54 @@ fn other_bounds_are_refused_at_their_line(rt: HostRuntime) -> Result<(), Fail> {
     Ok(())
 }
 
+#[test]
+fn a_plan_has_its_delays(rt: HostRuntime) -> Result<(), Fail> {
+    let plan = read_plan(rt.alloc(), DELAYED)?;
+    assert_eq!(rt; plan.bounds.delays.as_slice(), [1, 16].as_slice());
+    let plan = read_plan(rt.alloc(), LATER_GROUPS)?;
+    assert_eq!(rt; plan.bounds.delays.as_slice(), [1].as_slice());
+    Ok(())
+}
+
+/// Lines after the patterns of a plan of version 3, of which the last is refused, and its number.
+static REFUSED_DELAYS: [(&[u8], u64); 10] = [
+    (b"delays 1\n", 9),
+    (b"delays 0\n", 9),
+    (b"delays 1025\n", 9),
+    (b"delays 2,2\n", 9),
+    (b"delays 16,1\n", 9),
+    (b"delays 016\n", 9),
+    (b"delays \n", 9),
+    (b"delays 1,2,3,4,5,6,7,8,9,10,11,12,13,14,15,16,17\n", 9),
+    (b"delays 16\ndelays 16\n", 10),
+    (b"syndromes none\ndelays 16\n", 10),
+];
+
+#[test]
+fn other_delays_are_refused_at_their_line(rt: HostRuntime) -> Result<(), Fail> {
+    for (lines, line) in &REFUSED_DELAYS {
+        let mut text = Text::new(rt.alloc());
+        text.extend_from_slice(UP_TO_PATTERNS)?;
+        text.extend_from_slice(lines)?;
+        let fault = read_plan(rt.alloc(), text.as_slice()).err();
+        assert_eq!(rt; fault, Some(PlanFault::Line(*line)));
+    }
+    Ok(())
+}
+
+#[test]
+fn a_plan_of_one_delay_has_bounds_in_version_3(rt: HostRuntime) -> Result<(), Fail> {
+    let mut text = Text::new(rt.alloc());
+    text.extend_from_slice(UP_TO_PATTERNS)?;
+    text.extend_from_slice(PAST_DELAYS)?;
+    text.extend_from_slice(b"done\n")?;
+    let fault = read_plan(rt.alloc(), text.as_slice()).err();
+    assert_eq!(rt; fault, Some(PlanFault::Line(19)));
+    Ok(())
+}
+
 /// Beginnings of texts whose last line no plan has there, and its number.
-static REFUSED: [(&str, u64); 15] = [
+static REFUSED: [(&str, u64); 17] = [
     ("reraid-plan 4\n", 1),
     ("reraid-plan 3\n", 2),
     ("reraid-plan 3\nimages 1\n", 2),
@@ -149,6 +213,14 @@ static REFUSED: [(&str, u64); 15] = [
         19,
     ),
     ("reraid-plan 02\n", 1),
+    (
+        "reraid-plan 1\nimages 1\nlength 3\nend 3\nlevels 5\nmembers 3\npatterns ls\ndelays 16\n",
+        8,
+    ),
+    (
+        "reraid-plan 2\nimages 1\nlength 3\nend 3\nlevels 5\nmembers 3\npatterns ls\ndelays 1,16\n",
+        8,
+    ),
     ("reraid-plan 2\nimages 1\nlength 18014398509481984\n", 3),
     ("reraid-plan 1\nimages 1\nlength 36028797018963968\n", 3),
     (

@@ -22,7 +22,7 @@ fn refused_word(alloc: Global, line: &str) -> Result<u64, Fail> {
 }
 
 /// Lines with their refused words, counted from 1.
-static REFUSED: [(&str, u64); 143] = [
+static REFUSED: [(&str, u64); 152] = [
     ("", 1),
     ("lists -- a", 1),
     ("LIST -- a", 1),
@@ -88,6 +88,18 @@ static REFUSED: [(&str, u64); 143] = [
     ("survey levels=4 -- a", 2),
     ("survey members=1 -- a", 2),
     ("survey members=25 -- a", 2),
+    ("survey delays=0 -- a", 2),
+    ("survey delays=1025 -- a", 2),
+    ("survey delays=16,1 -- a", 2),
+    ("survey delays=1,1 -- a", 2),
+    ("survey delays=016 -- a", 2),
+    (
+        "survey delays=1,2,3,4,5,6,7,8,9,10,11,12,13,14,15,16,17 -- a",
+        2,
+    ),
+    ("survey delays=1 delays=16 -- a", 3),
+    ("mirrors delays=1 -- a", 2),
+    ("write set=5:la*1:none:8:0:0,1,2 -- a", 2),
     ("survey chunks=0 -- a", 2),
     ("survey chunks=3 -- a", 2),
     ("survey chunks=65536 -- a", 2),
@@ -336,6 +348,7 @@ fn asked(alloc: Global, line: &str) -> Result<Option<SurveyWords>, Fail> {
 fn compare_lists<R: Abort>(rt: &R, bounds: &Bounds) {
     assert_eq!(rt; (bounds.levels.len(), bounds.members.len()), (3, 0));
     assert_eq!(rt; (bounds.patterns.len(), bounds.syndromes.len()), (14, 4));
+    assert_eq!(rt; bounds.delays.as_slice(), [1].as_slice());
     assert_eq!(rt;
         bounds.chunks.as_slice(),
         [8, 16, 32, 64, 128, 256, 512, 1024, 2048].as_slice()
@@ -386,6 +399,18 @@ fn a_survey_has_its_operands(rt: HostRuntime) -> Result<(), Fail> {
     if let Some(told) = told {
         compare_told(&rt, &told);
     }
+    Ok(())
+}
+
+#[test]
+fn a_survey_has_its_delays(rt: HostRuntime) -> Result<(), Fail> {
+    let told = asked(rt.alloc(), "survey patterns=la delays=1,16,1024 -- a b c")?;
+    assert!(rt; told.is_some_and(|told| told.bounds.delays.as_slice() == [1, 16, 1024].as_slice()));
+    let told = asked(
+        rt.alloc(),
+        "survey delays=1,2,3,4,5,6,7,8,9,10,11,12,13,14,15,16 -- a",
+    )?;
+    assert!(rt; told.is_some_and(|told| told.bounds.delays.len() == 16));
     Ok(())
 }
 

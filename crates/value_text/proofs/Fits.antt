@@ -8,7 +8,7 @@ use Rattle.std.proofs.lemmas.List.Folds.{Any-from_list_any}
 use Rattle.std.proofs.lemmas.List.FromFn.{get_or-range_with_len}
 use Rattle.std.proofs.lemmas.List.Elements.{All-tail, All-nil, All-cons}
 use Rattle.std.proofs.Math.Pow.{pow_mono, pow-lt}
-use Rattle.raid_params.specs.declared.limits.TheConstants.{MOST, MOST_CHUNKS, MOST_LESS_ONE, MOST_LEVELS, MOST_PATTERNS, MOST_SYNDROMES}
+use Rattle.raid_params.specs.declared.limits.TheConstants.{LONGEST_DELAY, MOST, MOST_CHUNKS, MOST_LESS_ONE, MOST_LEVELS, MOST_PATTERNS, MOST_SYNDROMES}
 use Rattle.raid_params.specs.declared.types.Level.{Level}
 use Rattle.raid_params.specs.declared.types.Level.TheVariants.{Raid0, Raid5, Raid6}
 use Rattle.raid_params.specs.declared.types.Pattern.{Pattern}
@@ -143,6 +143,9 @@ chunk_is_short chunk h =
 
 pub chunks_are_short : (ns : List ℕ) → All (λ n. IsTrue (is_chunk n)) ns → All (λ n. n < 2 ^ 64) ns
 chunks_are_short ns all k d lt = chunk_is_short (get_or ns k d) (all k d lt)
+
+pub delays_are_short : (ns : List ℕ) → All (λ n. (1 ≤ n) × (n ≤ LONGEST_DELAY)) ns → All (λ n. n < 2 ^ 64) ns
+delays_are_short ns all k d lt = let h = all k d lt in omega (arith, h.1)
 
 pub offsets_are_short : (ns : List ℕ) → All (λ n. n < 2 ^ 55) ns → All (λ n. n < 2 ^ 64) ns
 offsets_are_short ns all k d lt = let h = all k d lt in omega (arith, h)

@@ -4,6 +4,7 @@ pub mod Spellings
 pub mod SetWords
 pub mod Lists
 pub mod Offsets
+pub mod Rotations
 pub mod Fits
 pub mod Examples
 pub mod AllValues

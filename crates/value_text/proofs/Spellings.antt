@@ -4,6 +4,7 @@ use Rattle.std.specs.List.{join_with_byte}
 use Rattle.std.specs.Result.{result_ok}
 use Rattle.std.proofs.lemmas.List.Elements.{All-head, All-tail, All-push}
 use Rattle.value_text.specs.NameLaws.{without_separator}
+pub use Rattle.value_text.specs.Separators.{IsWithout, first_separator, has_separator}
 use Rattle.value_text.specs.Spelling.{IsFieldName, IsListName, IsSpelling, commas, is_separator}
 
 pub none_then : {A : Type 0} (P : Type 0) (Q : A → Type 0) (r : Option A) → r ≡ None → P → MatchOption r P Q
@@ -21,29 +22,6 @@ was_pushed P (Err e) o w some same pushed = cc
 pub had_room : {A E : Type 0} (P : Type 0) (r : Result A E) (o : Option A) (v : A) → o ≡ Some v → o ≡ result_ok r → IsOk r ↔ P → P
 had_room P (Ok v) o w some same room = room.0 refl
 had_room P (Err e) o w some same room = cc
-
-abbrev IsOther : ℕ → ℕ → Type 0
-IsOther separator byte = byte ≢ separator
-
--- no byte of it is the separator
-abbrev pub IsWithout : ℕ → List ℕ → Type 0
-IsWithout separator bytes = All (λ byte. byte ≢ separator) bytes
-
-pub has_separator : (separator : ℕ) (word rest : List ℕ) → IsWithout separator (word ++ separator ∷ rest) → ⊥
-has_separator separator [] rest all = All-head (IsOther separator) separator rest all refl
-has_separator separator (b ∷ word) rest all = has_separator separator word rest (All-tail (IsOther separator) b (word ++ separator ∷ rest) all)
-
--- the first separator is in one place
-pub first_separator : (separator : ℕ) (xs ys after_x after_y : List ℕ) → IsWithout separator xs → IsWithout separator ys → xs ++ separator ∷ after_x ≡ ys ++ separator ∷ after_y → (xs ≡ ys) × (after_x ≡ after_y)
-first_separator separator [] [] u v p q e = (refl, cc)
-first_separator separator [] (y ∷ ys) u v p q e = let same : y ≡ separator = cc in absurd (All-head (IsOther separator) y ys q same)
-first_separator separator (x ∷ xs) [] u v p q e = let same : x ≡ separator = cc in absurd (All-head (IsOther separator) x xs p same)
-first_separator separator (x ∷ xs) (y ∷ ys) u v p q e =
-    let head : x ≡ y = cc in
-    let tail : xs ++ separator ∷ u ≡ ys ++ separator ∷ v = cc in
-    let more = first_separator separator xs ys u v (All-tail (IsOther separator) x xs p) (All-tail (IsOther separator) y ys q) tail in
-    let front : xs ≡ ys = more.0 in
-    (cc, more.1)
 
 -- a word up to a separator is the value's
 pub word_is : {A : Type 0} (name : A → List ℕ) (IsSpelled : A → Type 0) → IsFieldName name IsSpelled → (separator : ℕ) (word rest more : List ℕ) (x : A) → IsTrue (is_separator separator) → IsWithout separator word → IsSpelled x →

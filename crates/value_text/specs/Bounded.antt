@@ -1,12 +1,15 @@
 -- Lists of numbers within the limits of what they count.
 use Rattle.std.specs.Prelude.{ℕ, ◌≤◌, ◌<◌, ◌^◌, IsTrue, List, length, All}
-use Rattle.raid_params.specs.declared.limits.TheConstants.{MOST, MOST_OFFSETS}
+use Rattle.raid_params.specs.declared.limits.TheConstants.{LONGEST_DELAY, MOST, MOST_DELAYS, MOST_OFFSETS}
 use Rattle.raid_params.specs.Places.{AreRising}
 use Rattle.raid_params.specs.Validity.{is_chunk}
 
--- numbers that rise, each within the limits of members, chunks or sectors
+-- numbers that rise, each within the limits of members, delays, chunks or sectors
 abbrev pub AreMembers : List ℕ → Type 0
 AreMembers ns = AreRising ns × All (λ n. (2 ≤ n) × (n ≤ MOST)) ns
+
+abbrev pub AreDelays : List ℕ → Type 0
+AreDelays ns = AreRising ns × (length ns ≤ MOST_DELAYS) × All (λ n. (1 ≤ n) × (n ≤ LONGEST_DELAY)) ns
 
 abbrev pub AreChunks : List ℕ → Type 0
 AreChunks ns = AreRising ns × All (λ n. IsTrue (is_chunk n)) ns

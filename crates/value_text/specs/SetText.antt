@@ -1,7 +1,8 @@
 -- The texts of a parameter set.
-use Rattle.std.specs.Prelude.{ℕ, ◌≡◌, ◌^◌, ◌≤◌, ◌<◌, refl, List, [], ◌∷◌, length, map, decimal, All, IfSome}
+use Rattle.std.specs.Prelude.{ℕ, ◌≡◌, ◌^◌, ◌≤◌, ◌<◌, ◌==◌, if◌then◌else◌, refl, List, [], ◌∷◌, ◌++◌, length, map, decimal, All, IfSome}
 use Rattle.raid_params.specs.declared.limits.TheConstants.{MOST}
 use Rattle.raid_params.specs.declared.types.Geometry.{Geometry}
+use Rattle.raid_params.specs.declared.types.Pattern.{Pattern}
 use Rattle.raid_params.specs.declared.wide.Wide.{Wide}
 use Rattle.value_text.specs.Spelling.{level_name, pattern_name, syndrome_name, slot_name, commas, pluses, colons, named, line}
 
@@ -10,11 +11,15 @@ abbrev pub offset_name : ℕ → List ℕ → List ℕ
 offset_name offset [] = decimal offset
 offset_name offset (base ∷ bases) = pluses (map decimal (base ∷ bases))
 
+-- a pattern, and behind a star for how many rows its parity stays, where that is not one: PATTERN or PATTERN*DELAY
+abbrev pub rotation_name : Pattern → ℕ → List ℕ
+rotation_name pattern delay = if delay == 1 then pattern_name pattern else pattern_name pattern ++ 42 ∷ decimal delay
+
 -- LEVEL:PATTERN:SYNDROME:CHUNK:OFFSET:SLOTS
 abbrev pub word_with : Geometry → List ℕ → List ℕ
 word_with geo bases = colons
     (level_name geo.head.level
-    ∷ pattern_name geo.head.pattern
+    ∷ rotation_name geo.head.pattern geo.head.delay
     ∷ syndrome_name geo.head.syndrome
     ∷ decimal geo.head.chunk
     ∷ offset_name geo.head.offset bases
@@ -42,6 +47,8 @@ pub record HasWord (set : Wide) : Type 0 where
   pub most : length set.geo.slots.items ≤ MOST
   pub members : set.geo.head.members ≡ length set.geo.slots.items
   pub images : All (λ slot. IfSome slot (λ image. image < MOST)) set.geo.slots.items
+  pub some_delay : 1 ≤ set.geo.head.delay
+  pub delay : set.geo.head.delay < 2 ^ 32
   pub chunk : set.geo.head.chunk < 2 ^ 32
   pub offset : HasOffset set.geo.head.offset set.bases.items
 

@@ -1,12 +1,15 @@
 //! Lists of numbers, within the limits of what they count.
 ghost use Rattle.std.specs.Prelude.{◌≡◌, ◌≢◌, ◌≤◌, ◌<◌, ◌^◌, ◌↔◌, ℕ, List, All, IsTrue, MatchOption, decimal, map};
 ghost use Rattle.raid_params.specs.Validity.{is_chunk as is_chunk_size};
-ghost use Rattle.value_text.specs.Bounded.{AreChunks, AreMembers, ArePlaces, AreSectors};
+ghost use Rattle.value_text.specs.Bounded.{AreChunks, AreDelays, AreMembers, ArePlaces, AreSectors};
 ghost use Rattle.value_text.specs.Spelling.{commas, pluses};
 
 use crate::spelled::{joined, rising};
 use arrayvec::ArrayVec;
-use raid_params::{MOST, MOST_CHUNKS, MOST_LESS_ONE, MOST_OFFSETS, SECTORS_END, is_chunk};
+use raid_params::{
+    LONGEST_DELAY, MOST, MOST_CHUNKS, MOST_DELAYS, MOST_LESS_ONE, MOST_OFFSETS, SECTORS_END,
+    is_chunk,
+};
 
 /// The fewest members of an array: at level 0 two.
 const FEWEST_MEMBERS: u8 = 2;
@@ -20,6 +23,20 @@ pub fn read_members(text: &[u8]) -> Option<ArrayVec<u8, MOST_LESS_ONE>>
     let members = rising(text)?;
     if are_members(&members) {
         Some(members)
+    } else {
+        None
+    }
+}
+
+/// The delays that a text spells so: at most 16, each from 1 to 1,024.
+pub fn read_delays(text: &[u8]) -> Option<ArrayVec<u64, MOST_DELAYS>>
+    ensures { MatchOption result
+        ((ns : List ℕ) → AreDelays ns → text.now ≢ commas (map decimal ns))
+        (λ ns. AreDelays ns.items × (text.now ≡ commas (map decimal ns.items))) }
+{
+    let delays = rising(text)?;
+    if are_delays(&delays) {
+        Some(delays)
     } else {
         None
     }
@@ -72,6 +89,15 @@ fn are_members(members: &[u8]) -> bool
     ensures { IsTrue result ↔ All (λ n. (2 ≤ n) × (n ≤ MOST)) members.now }
 {
     members.iter().all(|count| FEWEST_MEMBERS <= *count && usize::from(*count) <= MOST)
+}
+
+/// Whether each number is one of rows for which parity may stay.
+fn are_delays(delays: &[u64]) -> bool
+    ensures { IsTrue result ↔ All (λ n. (1 ≤ n) × (n ≤ LONGEST_DELAY)) delays.now }
+{
+    delays
+        .iter()
+        .all(|delay| 1 <= *delay && *delay <= LONGEST_DELAY)
 }
 
 /// Whether each number is a chunk size.

@@ -2,7 +2,7 @@
 //!
 //! Each value has one text, and a text is read as a value exactly where it is that value's text to its last byte.
 //! [`Spelled`] is what a text spells, [`Field`] what may stand before any separator, and [`Listed`] what stands in lists in
-//! rising order. [`list`] and [`rising`] read lists, [`read_members`], [`read_chunks`], [`read_sectors`] and
+//! rising order. [`list`] and [`rising`] read lists, [`read_members`], [`read_delays`], [`read_chunks`], [`read_sectors`] and
 //! [`read_places`] those of bounded numbers, [`add_list`] writes them; [`read_set`], [`write_set`] and [`set_line`] do the same for sets,
 //! [`read_common_set`] and [`common_set_line`] for those with an offset that is common to all images.
 //!
@@ -17,6 +17,7 @@ mod listed;
 mod names;
 mod number;
 mod offset;
+mod rotation;
 mod set;
 mod set_word;
 mod spelled;
@@ -24,7 +25,7 @@ mod text;
 
 // The tests stand in `text_rows`.
 
-pub use bounded::{read_chunks, read_members, read_places, read_sectors};
+pub use bounded::{read_chunks, read_delays, read_members, read_places, read_sectors};
 pub use front::cut;
 pub use laws::set_words_have_one_spelling;
 pub use names::{LEVELS, PATTERNS, SYNDROMES, pattern_name, syndrome_name};

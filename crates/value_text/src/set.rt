@@ -1,9 +1,10 @@
 //! The texts of a parameter set.
 ghost use Rattle.std.specs.Prelude.{◌≡◌, ◌∷◌, ◌++◌, IfOk, OnOk, decimal, []};
-ghost use Rattle.value_text.specs.SetText.{common, offset_name, set_line as set_line_text, set_word, word_with};
-ghost use Rattle.value_text.specs.Spelling.{level_name, line, named, pattern_name, syndrome_name};
+ghost use Rattle.value_text.specs.SetText.{common, offset_name, rotation_name, set_line as set_line_text, set_word, word_with};
+ghost use Rattle.value_text.specs.Spelling.{level_name, line, named, syndrome_name};
 
 use crate::offset::add_offset;
+use crate::rotation::Rotation;
 use crate::spelled::{Field, add_list};
 use crate::text::{Text, add_number};
 use outside::Memory;
@@ -54,13 +55,17 @@ fn add_set(text: &mut Text, geo: &Geometry, bases: &[u64]) -> Result<(), Memory>
     add_list(text, &geo.slots)
 }
 
-/// Appends `LEVEL:PATTERN:SYNDROME:`.
+/// Appends `LEVEL:PATTERN:SYNDROME:`, where a delay other than 1 stands behind the pattern.
 fn add_layout(text: &mut Text, head: &Head) -> Result<(), Memory>
-    ensures { OnOk result (text.new ≡ text.old ++ (level_name head.now.level ++ 58 ∷ (pattern_name head.now.pattern ++ 58 ∷ (syndrome_name head.now.syndrome ++ 58 ∷ [])))) }
+    ensures { OnOk result (text.new ≡ text.old ++ (level_name head.now.level ++ 58 ∷ (rotation_name head.now.pattern head.now.delay ++ 58 ∷ (syndrome_name head.now.syndrome ++ 58 ∷ [])))) }
 {
     head.level.add_to(text)?;
     text.push(b':')?;
-    head.pattern.add_to(text)?;
+    let rotation = Rotation {
+        pattern: head.pattern,
+        delay: head.delay,
+    };
+    rotation.add_to(text)?;
     text.push(b':')?;
     head.syndrome.add_to(text)?;
     text.push(b':')

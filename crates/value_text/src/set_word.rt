@@ -6,11 +6,15 @@ ghost use Rattle.value_text.specs.SetText.{HasWord, common, set_word};
 
 use crate::front::cut;
 use crate::offset::read_offset;
+use crate::rotation::Rotation;
 use crate::spelled::{list, value_until};
 use raid_params::{Geometry, Head, Slots, Wide};
 
 /// Reads the word `LEVEL:PATTERN:SYNDROME:CHUNK:OFFSET:SLOTS`, to its last byte. It takes no
 /// memory.
+///
+/// `PATTERN` is the name of a pattern, and where parity stays for another number of rows than one a star and that number, from
+/// 2 on and below 2^32.
 ///
 /// `OFFSET` is the sector at which the data begin on all images, below 2^55, or from 2 to 24 of them, below 2^54 and joined
 /// by `+`, one for each image from image 0 on.
@@ -23,8 +27,8 @@ pub fn read_set(text: &[u8]) -> Option<Wide>
         (λ set. HasWord set × (text.now ≡ set_word set)) }
 {
     let (level, after_level) = value_until(text, b':')?;
-    let (pattern, after_pattern) = value_until(after_level, b':')?;
-    let (syndrome, after_syndrome) = value_until(after_pattern, b':')?;
+    let (rotation, after_rotation) = value_until::<Rotation>(after_level, b':')?;
+    let (syndrome, after_syndrome) = value_until(after_rotation, b':')?;
     let (chunk, after_chunk) = value_until(after_syndrome, b':')?;
     let (offset_text, after_offset) = cut(after_chunk, b':')?;
     let (offset, bases) = read_offset(offset_text)?;
@@ -33,7 +37,8 @@ pub fn read_set(text: &[u8]) -> Option<Wide>
         let head = Head {
             level,
             members: slots.len() as u8,
-            pattern,
+            pattern: rotation.pattern,
+            delay: rotation.delay,
             syndrome,
             chunk,
             offset,

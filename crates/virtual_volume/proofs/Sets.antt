@@ -1,18 +1,15 @@
 -- What is known of sets whose volume is written.
 use Rattle.std.proofs.Common.{◌≡◌, ℕ, ◌+◌, ◌*◌, ◌/◌, ◌<◌, ◌≤◌, List, length, All, Option, None, Some, Bool, true, false, refl, ap, arith, ◌-◌}
-use Rattle.std.specs.Option.{is_none}
-use Rattle.std.specs.Prelude.{IsTrue, nat_eq, if◌then◌else◌}
+use Rattle.std.specs.Prelude.{IsTrue}
 use Rattle.std.proofs.lemmas.Nat.{mul-le}
-use Rattle.std.proofs.lemmas.Bool.Decides.{nat_tests}
 use Rattle.outside.proofs.Reading.{reads_join, reads_up}
 use Rattle.outside.specs.Seen.{Image, OnlyReads, Seen}
 use Rattle.address_map.proofs.Heads.{some_chunk}
 use Rattle.address_map.proofs.Lies.{inside_back, slot_in}
 use Rattle.raid_terms.specs.Address.{LiesAt}
 use Rattle.raid_params.specs.Size.{area, rows, volume_sectors}
-use Rattle.raid_params.specs.Validity.{is_shaped, is_valid_head, row_fault, shape_fault}
-use Rattle.raid_params.specs.declared.types.GeoFault.{GeoFault}
-use Rattle.raid_params.specs.declared.types.GeoFault.TheVariants.{NoRow}
+use Rattle.raid_params.proofs.Ruled.{ruled_row, ruled_shape}
+use Rattle.raid_params.specs.Validity.{is_shaped, is_valid_head}
 use Rattle.raid_params.specs.declared.types.Geometry.{Geometry}
 use Rattle.raid_layouts.proofs.Shapes.{shaped_head, shaped_slots}
 use Rattle.lost_members.proofs.NeededRows.{as_many_as_volume}
@@ -22,13 +19,9 @@ use Rattle.member_regions.specs.Members.{IsTestable, Reaches}
 use Rattle.lost_members.specs.Needs.{needed_sectors}
 use Rattle.virtual_volume.specs.Served.{IsServed}
 
-ruled_shape : (r : Option GeoFault) (geo : Geometry) (end : ℕ) → row_fault geo end r ≡ None → is_none r ≡ true
-ruled_shape None geo end h = refl
-ruled_shape (Some fault) geo end h = absurd (cc)
-
 -- its shape is sensible
 pub served_shape : (geo : Geometry) (end : ℕ) (attached : List Image) → IsServed geo end attached → is_shaped geo (length attached) ≡ true
-served_shape geo end attached s = ruled_shape (shape_fault geo (length attached)) geo end s.ruled
+served_shape geo end attached s = ruled_shape geo (length attached) end s.ruled
 
 pub served_testable : (geo : Geometry) (end : ℕ) (attached : List Image) → IsServed geo end attached → IsTestable geo
 served_testable geo end attached s = record { images = length attached; shaped = served_shape geo end attached s }
@@ -39,23 +32,12 @@ served_head geo end attached s = shaped_head geo (length attached) (served_shape
 pub served_slots : (geo : Geometry) (end : ℕ) (attached : List Image) → IsServed geo end attached → length geo.slots.items ≡ geo.head.members
 served_slots geo end attached s = shaped_slots geo (length attached) (served_shape geo end attached s)
 
-some_row : (b : Bool) (fault : GeoFault) → (if b then Some fault else None) ≡ None → b ≡ false
-some_row true fault h = absurd (cc)
-some_row false fault h = refl
-
-ruled_rows : (r : Option GeoFault) (geo : Geometry) (end : ℕ) → row_fault geo end r ≡ None → nat_eq (rows geo.head end) 0 ≡ false
-ruled_rows None geo end h = some_row (nat_eq (rows geo.head end) 0) (NoRow geo.head.offset) h
-ruled_rows (Some fault) geo end h = absurd (cc)
-
-positive : (n : ℕ) → nat_eq n 0 ≡ false → 1 ≤ n
-positive n h = grind (arith, nat_tests)
-
 nothing_over : (n : ℕ) → 0 / n ≡ 0
 nothing_over n = grind arith
 
 -- it has a whole row, and its rows end before the end
 pub served_rows : (geo : Geometry) (end : ℕ) (attached : List Image) → IsServed geo end attached → 1 ≤ rows geo.head end
-served_rows geo end attached s = positive (rows geo.head end) (ruled_rows (shape_fault geo (length attached)) geo end s.ruled)
+served_rows geo end attached s = ruled_row geo (length attached) end s.ruled
 
 pub served_end : (geo : Geometry) (end : ℕ) (attached : List Image) → IsServed geo end attached → 1 ≤ geo.head.chunk → geo.head.offset + rows geo.head end * geo.head.chunk ≤ end
 served_end geo end attached s some =

@@ -5,6 +5,7 @@ use Rattle.std.proofs.Math.Nat.{eq_of_mul-eq-mul_left}
 use Rattle.std.proofs.lemmas.Bool.{cases_eq, cases_lt}
 use Rattle.std.proofs.lemmas.Nat.{mod_below, mul-add-lt, mul-le}
 use Rattle.std.specs.Prelude.{IsTrue}
+use Rattle.raid_params.proofs.Ruled.{ruled_row, ruled_shape}
 use Rattle.raid_params.specs.declared.types.Geometry.{Geometry}
 use Rattle.raid_params.specs.declared.types.Head.{Head}
 use Rattle.raid_params.specs.Size.{area, data_blocks, rows, volume_sectors}
@@ -18,7 +19,7 @@ use Rattle.volume_classes.specs.Alike.{AreAlike}
 use Rattle.volume_classes.specs.Coefficients.{AgreeInRow, HaveEqualCoefficients, coefficient}
 use Rattle.volume_classes.proofs.EqualGive.{same_item, same_row, same_rows}
 use Rattle.volume_classes.proofs.Spikes.{are_images, place_of, spike_at, spike_off, spikes}
-use Rattle.volume_classes.proofs.Volumes.{ruled_row, ruled_shape, volume_long}
+use Rattle.volume_classes.proofs.Volumes.{volume_long}
 use Rattle.volume_classes.proofs.Weighed.{each_item}
 
 -- two sets that break no rule and are alike

@@ -1,53 +1,31 @@
 -- Sets with equal coefficients are alike.
-use Rattle.std.proofs.Common.{ℕ, ◌≡◌, ◌+◌, ◌-◌, ◌*◌, ◌/◌, ◌%◌, ◌<◌, ◌≤◌, List, get_or, min, sym, ap, ap₂, ◌∙◌, arith}
+use Rattle.std.proofs.Common.{ℕ, ◌≡◌, ◌+◌, ◌-◌, ◌*◌, ◌/◌, ◌%◌, ◌<◌, List, get_or, min, sym, ap, ap₂, ◌∙◌, arith}
 use Rattle.std.specs.declared.option.Option.TheVariants.{None}
-use Rattle.std.proofs.Math.Nat.{dvd-mul_left, dvd-mul_right, mod-mod_of_dvd}
 use Rattle.std.proofs.lemmas.List.{ext_get_or}
-use Rattle.std.proofs.lemmas.Nat.{div-add-mod', mod_below, mul-le}
+use Rattle.std.proofs.lemmas.Nat.{div-add-mod', mod_below}
 use Rattle.std.specs.Prelude.{IsTrue}
 use Rattle.gf256.specs.Field.{product}
+use Rattle.raid_params.proofs.Ruled.{ruled_shape}
 use Rattle.raid_params.specs.declared.types.Geometry.{Geometry}
 use Rattle.raid_params.specs.declared.types.Head.{Head}
-use Rattle.raid_params.specs.declared.types.Pattern.{Pattern}
-use Rattle.raid_params.specs.declared.types.Pattern.TheVariants.{Plain, La, Ra, Ls, Rs, ParityFirst, ParityLast, NRestart, NContinue, La6, Ra6, Ls6, Rs6, ParityFirst6}
 use Rattle.raid_params.specs.Size.{data_blocks, rows, volume_sectors}
 use Rattle.raid_params.specs.Validity.{first_fault, is_valid_head}
 use Rattle.address_map.proofs.Heads.{some_chunk, some_data}
 use Rattle.address_map.proofs.Sectors.{row_below}
-use Rattle.raid_layouts.proofs.Levels.{enough}
 use Rattle.raid_layouts.proofs.Shapes.{shaped_head}
 use Rattle.raid_terms.specs.Address.{home_item, home_row, home_sector}
 use Rattle.raid_terms.specs.Volume.{volume}
 use Rattle.volume_classes.specs.Alike.{AreAlike}
-use Rattle.volume_classes.specs.Coefficients.{AgreeInRow, HaveEqualCoefficients, coefficient, period, period_of}
+use Rattle.volume_classes.specs.Coefficients.{AgreeInRow, HaveEqualCoefficients, coefficient, common_period, period}
 use Rattle.volume_classes.proofs.FieldSums.{sum_same}
 use Rattle.volume_classes.proofs.Repeats.{coefficient_period}
-use Rattle.volume_classes.proofs.Volumes.{are_sums, byte_of, ruled_shape, volume_long, weighed}
-
--- a period has a row
-period_some : (pattern : Pattern) (n : ℕ) → 2 ≤ n → 0 < period_of pattern n
-period_some Plain n few = omega arith
-period_some La n few = omega arith
-period_some Ra n few = omega arith
-period_some Ls n few = omega arith
-period_some Rs n few = omega arith
-period_some ParityFirst n few = omega arith
-period_some ParityLast n few = omega arith
-period_some NRestart n few = omega arith
-period_some NContinue n few = omega arith
-period_some La6 n few = omega arith
-period_some Ra6 n few = omega arith
-period_some Ls6 n few = omega arith
-period_some Rs6 n few = omega arith
-period_some ParityFirst6 n few = omega arith
-
-pub some_period : (head : Head) → IsTrue (is_valid_head head) → 0 < period head
-some_period head valid = period_some head.pattern head.members (let few = enough head valid in omega arith)
+use Rattle.volume_classes.proofs.Turns.{common_one, common_other, some_common}
+use Rattle.volume_classes.proofs.Volumes.{are_sums, byte_of, volume_long, weighed}
 
 -- a row has the coefficients of its number modulo a multiple of the period
-multiple : (geo : Geometry) (row item image n : ℕ) → row % n % period geo.head ≡ row % period geo.head → coefficient geo row item image ≡ coefficient geo (row % n) item image
-multiple geo row item image n e =
-    coefficient_period geo row item image ∙ ap (λ (r : ℕ). coefficient geo r item image) (sym e) ∙ sym (coefficient_period geo (row % n) item image)
+multiple : (geo : Geometry) (row item image n : ℕ) → IsTrue (is_valid_head geo.head) → row % n % period geo.head ≡ row % period geo.head → coefficient geo row item image ≡ coefficient geo (row % n) item image
+multiple geo row item image n valid e =
+    coefficient_period geo row item image valid ∙ ap (λ (r : ℕ). coefficient geo r item image) (sym e) ∙ sym (coefficient_period geo (row % n) item image valid)
 
 turned_below : (row n rows : ℕ) → row < rows → 0 < n → row % n < min rows n
 turned_below row n rows below some =
@@ -59,11 +37,10 @@ turned_below row n rows below some =
 pub in_each_row : (one other : Geometry) (images end row : ℕ) → IsTrue (is_valid_head one.head) → IsTrue (is_valid_head other.head) → HaveEqualCoefficients one other images end →
     row < rows one.head end → AgreeInRow one other images row
 in_each_row one other images end row one_valid other_valid equal below item image few lt =
-    let n = period one.head * period other.head in
-    let some : 0 < period one.head * period other.head = (let product_some = mul-le 1 1 (period one.head) (period other.head) (some_period one.head one_valid) (some_period other.head other_valid) in omega arith) in
-    multiple one row item image (period one.head * period other.head) (mod-mod_of_dvd (period one.head) row (dvd-mul_right (period one.head) (period other.head)))
-    ∙ equal.rows (row % (period one.head * period other.head)) (turned_below row (period one.head * period other.head) (rows one.head end) below some) item image few lt
-    ∙ sym (multiple other row item image (period one.head * period other.head) (mod-mod_of_dvd (period other.head) row (dvd-mul_left (period other.head) (period one.head))))
+    let n = common_period one.head other.head in
+    multiple one row item image (common_period one.head other.head) one_valid (common_one one.head other.head row)
+    ∙ equal.rows (row % common_period one.head other.head) (turned_below row (common_period one.head other.head) (rows one.head end) below (some_common one.head other.head one_valid other_valid)) item image few lt
+    ∙ sym (multiple other row item image (common_period one.head other.head) other_valid (common_other one.head other.head row))
 
 -- the parts of a sector's number
 pub same_row : (one other : Head) (v : ℕ) → one.chunk ≡ other.chunk → data_blocks one ≡ data_blocks other → home_row one v ≡ home_row other v

@@ -1,3 +1,4 @@
+pub mod Turns
 pub mod Repeats
 pub mod FieldSums
 pub mod KnownSums

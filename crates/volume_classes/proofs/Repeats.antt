@@ -1,10 +1,12 @@
 -- Layouts repeat after a period.
-use Rattle.std.proofs.Common.{ℕ, ◌≡◌, ◌+◌, ◌-◌, ◌%◌, ◌==◌, slice_index_or, List, [], ◌∷◌, refl, sym, ap, ap₂, ◌∙◌, cond, unwrap_or}
+use Rattle.std.proofs.Common.{ℕ, ◌≡◌, ◌+◌, ◌-◌, ◌*◌, ◌%◌, ◌==◌, slice_index_or, List, [], ◌∷◌, refl, sym, ap, ap₂, ◌∙◌, cond, unwrap_or}
 use Rattle.std.proofs.Math.Nat.{mod-mod, mod-add-mod}
 use Rattle.std.specs.List.{position, range_with_len}
 use Rattle.std.specs.Option.{is_none}
 use Rattle.std.specs.declared.option.Option.{Option}
 use Rattle.std.specs.declared.option.Option.TheVariants.{None, Some}
+use Rattle.std.specs.Prelude.{IsTrue}
+use Rattle.raid_params.specs.Validity.{is_valid_head}
 use Rattle.raid_params.specs.declared.types.Cell.{Cell}
 use Rattle.raid_params.specs.declared.types.Geometry.{Geometry}
 use Rattle.raid_params.specs.declared.types.Head.{Head}
@@ -19,9 +21,10 @@ use Rattle.raid_params.specs.declared.types.Syndrome.TheVariants.{NoQ, AfterQ, B
 use Rattle.raid_params.specs.Size.{data_blocks}
 use Rattle.raid_terms.specs.Cells.{cells_from, part_of, row_cells, stands_in, weight_at}
 use Rattle.raid_terms.specs.Exponent.{exponent_by, exponent_of, item_in, number_after_q}
-use Rattle.raid_terms.specs.Role.{after, double_item, double_p, double_q, item_at, item_of, over_p, over_p_and_q, p_at, p_of, q_at, q_of, single_item, single_p}
-use Rattle.volume_classes.specs.Coefficients.{coefficient, found_byte, period, period_of, unit_column}
+use Rattle.raid_terms.specs.Role.{after, double_item, double_p, double_q, item_at, item_of, over_p, over_p_and_q, p_at, p_of, q_at, q_of, single_item, single_p, turn}
+use Rattle.volume_classes.specs.Coefficients.{coefficient, found_byte, period, period_of, turns, unit_column}
 use Rattle.volume_classes.specs.Laws.{AreSameRows, RowsRepeat}
+use Rattle.volume_classes.proofs.Turns.{turn_in, turn_of_first}
 
 -- a whole turn changes no place
 whole : (n row : ℕ) → row % n ≡ row % n % n
@@ -99,21 +102,42 @@ item_period Raid0 pattern n row = refl
 item_period Raid5 pattern n row = (single_period pattern n row).1
 item_period Raid6 pattern n row = (double_period pattern n row).2
 
-exponent_period : (syndrome : Syndrome) (head : Head) (row slot : ℕ) → exponent_by syndrome head row slot ≡ exponent_by syndrome head (row % period head) slot
-unfolding item_in
-exponent_period AfterQ head row slot =
-    ap₂ (λ (p q : ℕ). number_after_q head.members p q slot) (double_period head.pattern head.members row).0 (double_period head.pattern head.members row).1
-exponent_period ByData head row slot =
-    ap (λ (items : ℕ → ℕ). unwrap_or (position (λ i. items i == slot) (range_with_len 0 (data_blocks head))) 0) (item_period head.level head.pattern head.members row)
-exponent_period BySlot head row slot = refl
-exponent_period NoQ head row slot = refl
+-- the exponent of a slot by the turn of its row
+exponent_at : Syndrome → Head → ℕ → ℕ → ℕ
+exponent_at AfterQ head t slot = number_after_q head.members (double_p head.pattern head.members t) (double_q head.pattern head.members t) slot
+exponent_at ByData head t slot = unwrap_or (position (λ i. item_at head.level head.pattern head.members t i == slot) (range_with_len 0 (data_blocks head))) 0
+exponent_at BySlot head t slot = slot
+exponent_at NoQ head t slot = 0
 
-pub same_rows : (head : Head) (row : ℕ) → AreSameRows head row (row % period head)
-same_rows head row = record {
-  p = p_period head.level head.pattern head.members row;
-  q = q_period head.level head.pattern head.members row;
-  items = λ item. ap (λ (items : ℕ → ℕ). items item) (item_period head.level head.pattern head.members row);
-  exponents = λ slot. exponent_period head.syndrome head row slot;
+exponent_is : (syndrome : Syndrome) (head : Head) (row slot : ℕ) → exponent_by syndrome head row slot ≡ exponent_at syndrome head (turn head row) slot
+unfolding exponent_at item_in
+exponent_is AfterQ head row slot = refl
+exponent_is ByData head row slot = refl
+exponent_is BySlot head row slot = refl
+exponent_is NoQ head row slot = refl
+
+exponent_period : (syndrome : Syndrome) (head : Head) (t slot : ℕ) → exponent_at syndrome head t slot ≡ exponent_at syndrome head (t % turns head) slot
+unfolding exponent_at
+exponent_period AfterQ head t slot =
+    ap₂ (λ (p q : ℕ). number_after_q head.members p q slot) (double_period head.pattern head.members t).0 (double_period head.pattern head.members t).1
+exponent_period ByData head t slot =
+    ap (λ (items : ℕ → ℕ). unwrap_or (position (λ i. items i == slot) (range_with_len 0 (data_blocks head))) 0) (item_period head.level head.pattern head.members t)
+exponent_period BySlot head t slot = refl
+exponent_period NoQ head t slot = refl
+
+-- rows are the same where their turns are, modulo those of a period
+pub same_rows : (head : Head) (row other : ℕ) → turn head row % turns head ≡ turn head other % turns head → AreSameRows head row other
+same_rows head row other same = record {
+  p = p_period head.level head.pattern head.members (turn head row) ∙ ap (λ (t : ℕ). p_at head.level head.pattern head.members t) same ∙ sym (p_period head.level head.pattern head.members (turn head other));
+  q = q_period head.level head.pattern head.members (turn head row) ∙ ap (λ (t : ℕ). q_at head.level head.pattern head.members t) same ∙ sym (q_period head.level head.pattern head.members (turn head other));
+  items = λ item.
+      ap (λ (items : ℕ → ℕ). items item) (item_period head.level head.pattern head.members (turn head row))
+      ∙ ap (λ (t : ℕ). item_at head.level head.pattern head.members t item) same
+      ∙ sym (ap (λ (items : ℕ → ℕ). items item) (item_period head.level head.pattern head.members (turn head other)));
+  exponents = λ slot.
+      exponent_is head.syndrome head row slot ∙ exponent_period head.syndrome head (turn head row) slot
+      ∙ ap (λ (t : ℕ). exponent_at head.syndrome head t slot) same
+      ∙ sym (exponent_is head.syndrome head other slot ∙ exponent_period head.syndrome head (turn head other) slot);
 }
 
 weight_same : (level : Level) (head : Head) (row other slot : ℕ) → exponent_of head row slot ≡ exponent_of head other slot → weight_at level head row slot ≡ weight_at level head other slot
@@ -138,9 +162,19 @@ coefficient_same geo row other item image same =
     ap (λ (cells : List Cell). found_byte cells (unit_column image geo.slots.items) (item_of geo.head row item) (slice_index_or geo.slots.items (item_of geo.head row item) None)) (cells_same geo.head row other 0 geo.slots.items same)
     ∙ ap (λ (slot : ℕ). found_byte (row_cells geo other) (unit_column image geo.slots.items) slot (slice_index_or geo.slots.items slot None)) (same.items item)
 
--- so the coefficients repeat
-pub coefficient_period : (geo : Geometry) (row item image : ℕ) → coefficient geo row item image ≡ coefficient geo (row % period geo.head) item image
-coefficient_period geo row item image = coefficient_same geo row (row % period geo.head) item image (same_rows geo.head row)
+-- so the coefficients stay for a turn
+pub coefficient_stays : (geo : Geometry) (row other item image : ℕ) → turn geo.head row ≡ turn geo.head other → coefficient geo row item image ≡ coefficient geo other item image
+coefficient_stays geo row other item image same = coefficient_same geo row other item image (same_rows geo.head row other (ap (λ (t : ℕ). t % turns geo.head) same))
+
+-- and repeat: those of a row are those of the first row of its turn, in a period
+pub coefficient_turn : (geo : Geometry) (row item image : ℕ) → IsTrue (is_valid_head geo.head) → coefficient geo row item image ≡ coefficient geo (turn geo.head row % turns geo.head * geo.head.delay) item image
+coefficient_turn geo row item image valid =
+    coefficient_same geo row (turn geo.head row % turns geo.head * geo.head.delay) item image
+    (same_rows geo.head row (turn geo.head row % turns geo.head * geo.head.delay)
+    (sym (mod-mod (turn geo.head row) (turns geo.head)) ∙ ap (λ (t : ℕ). t % turns geo.head) (sym (turn_of_first geo.head (turn geo.head row % turns geo.head) valid))))
 
 pub repeat : RowsRepeat
-repeat head row valid = same_rows head row
+repeat head row valid = same_rows head row (row % period head) (sym (mod-mod (turn head row) (turns head)) ∙ ap (λ (t : ℕ). t % turns head) (sym (turn_in head row valid)))
+
+pub coefficient_period : (geo : Geometry) (row item image : ℕ) → IsTrue (is_valid_head geo.head) → coefficient geo row item image ≡ coefficient geo (row % period geo.head) item image
+coefficient_period geo row item image valid = coefficient_same geo row (row % period geo.head) item image (repeat geo.head row valid)

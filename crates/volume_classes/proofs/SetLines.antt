@@ -1,5 +1,5 @@
 -- The lines of set lists: each entry has one of its own.
-use Rattle.std.proofs.Common.{ℕ, ◌≡◌, ◌≢◌, ◌<◌, ◌^◌, List, [], ◌∷◌, ◌++◌, map, codes, decimal, IfSome, refl, sym, ap, ap₂, ◌∙◌, arith, append_assoc, append-nil}
+use Rattle.std.proofs.Common.{ℕ, ◌≡◌, ◌≢◌, ◌<◌, ◌≤◌, ◌^◌, List, [], ◌∷◌, ◌++◌, map, codes, decimal, IfSome, refl, sym, ap, ap₂, ◌∙◌, arith, append_assoc, append-nil}
 use Rattle.std.specs.declared.option.Option.TheVariants.{None}
 use Rattle.std.proofs.lemmas.Fmt.{decimal_injective}
 use Rattle.std.proofs.lemmas.List.{append_cancel_left, same_from_push}
@@ -8,9 +8,11 @@ use Rattle.std.proofs.lemmas.List.Elements.{All-append, All-cons, filter_map-app
 use Rattle.raid_params.specs.declared.limits.TheConstants.{MOST}
 use Rattle.raid_params.specs.Validity.{first_fault}
 use Rattle.raid_params.specs.declared.types.Geometry.{Geometry}
-use Rattle.value_text.specs.NameLaws.{level_law, number_law, pattern_law, slot_law, syndrome_law, without_separator}
-use Rattle.value_text.specs.SetText.{HasWord, common, set_word}
-use Rattle.value_text.specs.Spelling.{commas, level_name, named, pattern_name, slot_name, syndrome_name}
+use Rattle.raid_params.specs.declared.types.Pattern.{Pattern}
+use Rattle.value_text.specs.NameLaws.{level_law, number_law, slot_law, syndrome_law, without_separator}
+use Rattle.value_text.specs.RotationLaws.{rotation_law}
+use Rattle.value_text.specs.SetText.{HasWord, common, rotation_name, set_word}
+use Rattle.value_text.specs.Spelling.{commas, level_name, named, slot_name, syndrome_name}
 use Rattle.value_text.proofs.Lists.{decimal_line, list_line}
 use Rattle.value_text.proofs.Numbers.{only_digits}
 use Rattle.value_text.proofs.SetWords.{one_common}
@@ -71,6 +73,9 @@ colon a b a_is b_is = All-append IsNoFeed a (58 ∷ b) a_is (All-cons IsNoFeed 5
 space : (a b : List ℕ) → IsWithout 10 a → IsWithout 10 b → IsWithout 10 (a ++ 32 ∷ b)
 space a b a_is b_is = All-append IsNoFeed a (32 ∷ b) a_is (All-cons IsNoFeed 32 b (λ e. absurd (omega (arith, e))) b_is)
 
+rotation_is_line : (pattern : Pattern) (delay : ℕ) → 1 ≤ delay → delay < 2 ^ 32 → IsWithout 10 (rotation_name pattern delay)
+rotation_is_line pattern delay some small = without_separator 10 (rotation_name pattern delay) refl (rotation_law.has_no_separator (record { pattern = pattern; delay = delay }) (some, small))
+
 word_is_line : (geo : Geometry) → HasWord (common geo) → IsWithout 10 (set_word (common geo))
 word_is_line geo has =
     let chunk = has.chunk in
@@ -80,8 +85,8 @@ word_is_line geo has =
     let offset_line : IsWithout 10 (decimal geo.head.offset ++ 58 ∷ commas (map slot_name geo.slots.items)) = colon (decimal geo.head.offset) (commas (map slot_name geo.slots.items)) (decimal_line geo.head.offset (omega arith)) slots_line in
     let chunk_line = colon (decimal geo.head.chunk) (decimal geo.head.offset ++ 58 ∷ commas (map slot_name geo.slots.items)) (decimal_line geo.head.chunk (omega arith)) offset_line in
     let syndrome_line = colon (syndrome_name geo.head.syndrome) (decimal geo.head.chunk ++ 58 ∷ (decimal geo.head.offset ++ 58 ∷ commas (map slot_name geo.slots.items))) (without_separator 10 (syndrome_name geo.head.syndrome) refl (syndrome_law.has_no_separator geo.head.syndrome tt)) chunk_line in
-    let pattern_line = colon (pattern_name geo.head.pattern) (syndrome_name geo.head.syndrome ++ 58 ∷ (decimal geo.head.chunk ++ 58 ∷ (decimal geo.head.offset ++ 58 ∷ commas (map slot_name geo.slots.items)))) (without_separator 10 (pattern_name geo.head.pattern) refl (pattern_law.has_no_separator geo.head.pattern tt)) syndrome_line in
-    colon (level_name geo.head.level) (pattern_name geo.head.pattern ++ 58 ∷ (syndrome_name geo.head.syndrome ++ 58 ∷ (decimal geo.head.chunk ++ 58 ∷ (decimal geo.head.offset ++ 58 ∷ commas (map slot_name geo.slots.items))))) (without_separator 10 (level_name geo.head.level) refl (level_law.has_no_separator geo.head.level tt)) pattern_line
+    let rotation_line = colon (rotation_name geo.head.pattern geo.head.delay) (syndrome_name geo.head.syndrome ++ 58 ∷ (decimal geo.head.chunk ++ 58 ∷ (decimal geo.head.offset ++ 58 ∷ commas (map slot_name geo.slots.items)))) (rotation_is_line geo.head.pattern geo.head.delay has.some_delay has.delay) syndrome_line in
+    colon (level_name geo.head.level) (rotation_name geo.head.pattern geo.head.delay ++ 58 ∷ (syndrome_name geo.head.syndrome ++ 58 ∷ (decimal geo.head.chunk ++ 58 ∷ (decimal geo.head.offset ++ 58 ∷ commas (map slot_name geo.slots.items))))) (without_separator 10 (level_name geo.head.level) refl (level_law.has_no_separator geo.head.level tt)) rotation_line
 
 next_word : IsWithout 10 (codes "next")
 next_word = without_separator 10 (codes "next") refl refl

@@ -11,6 +11,7 @@ use Rattle.gf256.specs.Field.{product}
 use Rattle.gf256.proofs.Products.{product_fits, product_zero}
 use Rattle.gf256.proofs.Powers.{product_one}
 use Rattle.gf256.proofs.Sums.{sum_fits}
+use Rattle.raid_params.proofs.Ruled.{ruled_shape}
 use Rattle.raid_params.specs.declared.types.Geometry.{Geometry}
 use Rattle.raid_params.specs.Size.{data_blocks, volume_sectors}
 use Rattle.raid_params.specs.Validity.{first_fault, is_shaped}
@@ -31,7 +32,7 @@ use Rattle.volume_classes.proofs.Columns.{cell_at, cell_of, found}
 use Rattle.volume_classes.proofs.FieldSums.{sum_none, sum_one}
 use Rattle.volume_classes.proofs.KnownSums.{unit_fits, units_fit}
 use Rattle.volume_classes.proofs.Spots.{spot, spot_here, spot_off}
-use Rattle.volume_classes.proofs.Volumes.{are_sums, byte_of, ruled_shape, weighed}
+use Rattle.volume_classes.proofs.Volumes.{are_sums, byte_of, weighed}
 
 -- image j has a 1 at this place
 abbrev spike : ℕ → ℕ → ℕ → List ℕ

@@ -1,7 +1,6 @@
 -- The bytes of a volume are weighed sums of the bytes of the images.
-use Rattle.std.proofs.Common.{ℕ, zero, suc, ◌≡◌, ◌+◌, ◌*◌, ◌/◌, ◌%◌, ◌<◌, ◌≤◌, List, [], ◌∷◌, ◌++◌, map, length, get_or, slice_index, slice_index_or, All, refl, sym, ap, ap₂, ◌∙◌, arith, inl, inr, true, cond, nat_eq}
+use Rattle.std.proofs.Common.{ℕ, zero, suc, ◌≡◌, ◌+◌, ◌*◌, ◌/◌, ◌%◌, ◌<◌, List, [], ◌∷◌, ◌++◌, map, length, get_or, slice_index, slice_index_or, All, refl, sym, ap, ap₂, ◌∙◌, arith, inl, inr}
 use Rattle.std.specs.List.{flat_map, range_with_len}
-use Rattle.std.specs.Option.{is_none}
 use Rattle.std.specs.declared.option.Option.{Option}
 use Rattle.std.specs.declared.option.Option.TheVariants.{None, Some}
 use Rattle.std.proofs.lemmas.Bool.{cases_lt}
@@ -9,11 +8,9 @@ use Rattle.std.proofs.lemmas.List.{get_or-append-add, get_or-map, get_or_append_
 use Rattle.std.proofs.lemmas.List.FromFn.{get_or-map-range_with_len, length-map-range_with_len}
 use Rattle.std.proofs.lemmas.Nat.{div-mul-add, mod_below}
 use Rattle.gf256.specs.Field.{product}
-use Rattle.raid_params.specs.declared.types.GeoFault.{GeoFault}
-use Rattle.raid_params.specs.declared.types.GeoFault.TheVariants.{NoRow}
 use Rattle.raid_params.specs.declared.types.Geometry.{Geometry}
-use Rattle.raid_params.specs.Size.{data_blocks, rows, volume_sectors}
-use Rattle.raid_params.specs.Validity.{first_fault, is_shaped, row_fault, shape_fault}
+use Rattle.raid_params.proofs.Ruled.{ruled_shape}
+use Rattle.raid_params.specs.Size.{data_blocks, volume_sectors}
 use Rattle.address_map.proofs.Heads.{some_chunk, some_data}
 use Rattle.raid_layouts.proofs.Levels.{item_below}
 use Rattle.raid_layouts.proofs.Shapes.{shaped_head, shaped_slots}
@@ -27,25 +24,6 @@ use Rattle.volume_classes.specs.Coefficients.{coefficient, found_byte}
 use Rattle.volume_classes.specs.Laws.{VolumesAreSums}
 use Rattle.volume_classes.proofs.Columns.{found_is_sum}
 use Rattle.volume_classes.proofs.KnownSums.{held}
-
--- a set that breaks no rule has a sensible shape, and a row
-shape_of : (fault : Option GeoFault) (geo : Geometry) (end : ℕ) → row_fault geo end fault ≡ None → is_none fault ≡ true
-shape_of None geo end ruled = refl
-shape_of (Some fault) geo end ruled = absurd (let e : Some fault ≡ None = ruled in cc)
-
-pub ruled_shape : (geo : Geometry) (images end : ℕ) → first_fault geo images end ≡ None → is_shaped geo images ≡ true
-ruled_shape geo images end ruled = shape_of (shape_fault geo images) geo end ruled
-
-row_of : (fault : Option GeoFault) (geo : Geometry) (end : ℕ) → row_fault geo end fault ≡ None → 1 ≤ rows geo.head end
-row_of (Some fault) geo end ruled = absurd (let e : Some fault ≡ None = ruled in cc)
-row_of None geo end ruled = by (rows geo.head end) ruled
-  where
-    by : (n : ℕ) → (cond (nat_eq n 0) (Some (NoRow geo.head.offset)) None) ≡ None → 1 ≤ n
-    by zero e = absurd (cc)
-    by (suc n) e = omega arith
-
-pub ruled_row : (geo : Geometry) (images end : ℕ) → first_fault geo images end ≡ None → 1 ≤ rows geo.head end
-ruled_row geo images end ruled = row_of (shape_fault geo images) geo end ruled
 
 -- pieces of one size, one after the other
 pub flat_long : (f : ℕ → List ℕ) (size a n : ℕ) → ((x : ℕ) → length (f x) ≡ size) → length (flat_map f (range_with_len a n)) ≡ size * n

@@ -29,7 +29,7 @@ use Rattle.raid_layouts.proofs.Shapes.{shaped_head, shaped_missing, shaped_slots
 use Rattle.raid_layouts.proofs.Solvable.{row_is}
 use Rattle.raid_terms.specs.Cells.{part_of, row_cells, weight_at}
 use Rattle.raid_terms.specs.Parity.{has_p, has_q, in_p, in_q, is_q, p_holds, q_holds, sum_of, IsRow}
-use Rattle.raid_terms.specs.Role.{item_of, p_at, p_of, q_of}
+use Rattle.raid_terms.specs.Role.{item_of, p_at, p_of, q_of, turn}
 use Rattle.raid_terms.specs.Solving.{lost_byte}
 use Rattle.lane_kernels.specs.Formulas.{weighed_sum}
 use Rattle.row_parity.specs.Known.{no_cell}
@@ -309,7 +309,7 @@ no_q geo images row shaped none has =
 
 lost_item : {geo : Geometry} {images row item : ℕ} (it : LostItem geo images row item) (p_place q_place : Option ℕ) → p_of geo.head row ≡ p_place → q_of geo.head row ≡ q_place → IsWeighed geo images row item
 lost_item {geo = geo} {images = images} {row = row} {item = item} it None q_place p_is q_is =
-    let none = no_parity geo.head.level geo.head.pattern geo.head.members row p_is in
+    let none = no_parity geo.head.level geo.head.pattern geo.head.members (turn geo.head row) p_is in
     let few = shaped_missing geo images it.shaped in
     let one = empty_counted geo.slots.items (item_of geo.head row item) it.below it.lost in
     absurd (omega arith)

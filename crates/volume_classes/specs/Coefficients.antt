@@ -13,7 +13,7 @@ use Rattle.raid_terms.specs.Cells.{row_cells}
 use Rattle.raid_terms.specs.Role.{item_of}
 use Rattle.raid_terms.specs.Solving.{lost_byte}
 
--- after so many rows a pattern over n slots begins anew: those with a 6 rotate over all slots but the last
+-- after so many turns a pattern over n slots begins anew: those with a 6 rotate over all slots but the last
 abbrev pub period_of : Pattern → ℕ → ℕ
 period_of La6 n = n - 1
 period_of Ra6 n = n - 1
@@ -22,9 +22,17 @@ period_of Rs6 n = n - 1
 period_of ParityFirst6 n = n - 1
 period_of _ n = n
 
--- the period of a head
+-- after so many turns the layout of a head begins anew
+abbrev pub turns : Head → ℕ
+turns head = period_of head.pattern head.members
+
+-- and after so many rows, since each turn lasts for as many as the delay
 abbrev pub period : Head → ℕ
-period head = period_of head.pattern head.members
+period head = head.delay * turns head
+
+-- and after so many rows two layouts begin anew together: where their delays are equal, as many turns as both take
+abbrev pub common_period : Head → Head → ℕ
+common_period one other = if one.delay == other.delay then one.delay * (turns one * turns other) else period one * period other
 
 -- byte 01 where a slot holds this image, and 00 elsewhere
 abbrev pub unit_byte : ℕ → Option ℕ → ℕ
@@ -56,9 +64,9 @@ abbrev pub AgreeInRow : Geometry → Geometry → ℕ → ℕ → Type 0
 AgreeInRow one other images row =
     (item image : ℕ) → item < data_blocks one.head → image < images → coefficient one row item image ≡ coefficient other row item image
 
--- the rows that tell two sets apart: those of both periods
+-- the rows that tell two sets apart: those before both begin anew together
 abbrev pub told_rows : Head → Head → ℕ → ℕ
-told_rows one other end = min (rows one end) (period one * period other)
+told_rows one other end = min (rows one end) (common_period one other)
 
 -- two heads have the same offset, chunk and number of data items
 pub record HaveEqualSizes (one other : Head) : Type 0 where
@@ -84,10 +92,14 @@ item_coefficients geo images row item = map (coefficient geo row item) (range_wi
 abbrev pub row_coefficients : Geometry → ℕ → ℕ → List ℕ
 row_coefficients geo images row = flat_map (item_coefficients geo images row) (range_with_len 0 (data_blocks geo.head))
 
--- the rows before the layout begins anew
-abbrev pub own_rows : Head → ℕ → ℕ
-own_rows head end = min (rows head end) (period head)
+-- the turns before the layout begins anew, and no more than there are rows
+abbrev pub own_turns : Head → ℕ → ℕ
+own_turns head end = min (rows head end) (turns head)
 
--- and those of all these rows
+-- those of the first row of a turn
+abbrev pub turn_coefficients : Geometry → ℕ → ℕ → List ℕ
+turn_coefficients geo images turn = row_coefficients geo images (turn * geo.head.delay)
+
+-- and those of all these turns
 abbrev pub coefficients_of : Geometry → ℕ → ℕ → List ℕ
-coefficients_of geo images end = flat_map (row_coefficients geo images) (range_with_len 0 (own_rows geo.head end))
+coefficients_of geo images end = flat_map (turn_coefficients geo images) (range_with_len 0 (own_turns geo.head end))

@@ -1,5 +1,6 @@
 pub mod Alike
 pub mod Coefficients
+pub mod Stretches
 pub mod SetLists
 pub mod Classes
 pub mod Laws

@@ -1,13 +1,14 @@
 //! Whether two parameter sets give the same volume.
-ghost use Rattle.std.specs.Prelude.{◌≡◌, ◌↔◌, ◌<◌, ℕ, IsTrue, None, length, slice_index, true};
+ghost use Rattle.std.specs.Prelude.{◌≡◌, ◌↔◌, ◌<◌, ◌≤◌, ◌^◌, ℕ, IsTrue, None, length, slice_index, true};
 ghost use Rattle.raid_params.specs.Size.{data_blocks as data_blocks_of};
 ghost use Rattle.raid_params.specs.Validity.{first_fault, is_shaped, is_valid_head};
 ghost use Rattle.volume_classes.specs.Alike.{AreAlike};
-ghost use Rattle.volume_classes.specs.Coefficients.{AgreeInRow, AreUnits, HaveEqualCoefficients, HaveEqualSizes, told_rows as told_rows_of};
+ghost use Rattle.volume_classes.specs.Coefficients.{AgreeInRow, AreUnits, HaveEqualCoefficients, HaveEqualSizes};
 
-use crate::coefficients::{period, put_coefficients};
+use crate::coefficients::put_coefficients;
+use crate::stretches::{stretch_end, told_rows};
 use crate::units::units_of;
-use address_map::{data_blocks, rows};
+use address_map::data_blocks;
 use outside::SECTOR;
 use raid_layouts::row_cells;
 use raid_params::{Geometry, Head};
@@ -44,25 +45,20 @@ pub(crate) fn have_equal_sizes(one: &Head, other: &Head) -> bool
     one.offset == other.offset && one.chunk == other.chunk && data_blocks(one) == data_blocks(other)
 }
 
-/// How many rows tell two sets apart: those of both periods, as far as there are rows.
-pub(crate) fn told_rows(one: &Head, other: &Head, end: u64) -> u64
-    requires one { IsTrue (is_valid_head one.now) }
-    requires other { IsTrue (is_valid_head other.now) }
-    ensures { result ≡ told_rows_of one.now other.now end }
-{
-    rows(one, end).min(u64::from(period(one)) * u64::from(period(other)))
-}
-
 /// Whether two sets have equal coefficients in the first rows.
+///
+/// They are compared where a stretch of rows begins over which neither set turns.
 fn agree_in_rows(one: &Geometry, other: &Geometry, images: u8, count: u64) -> bool
     requires one { is_shaped one.now images ≡ true }
     requires other { is_shaped other.now images ≡ true }
+    requires few { count ≤ 2 ^ 30 }
     requires items { data_blocks_of one.now.head ≡ data_blocks_of other.now.head }
     ensures { IsTrue result ↔ ((row : ℕ) → row < count → AgreeInRow one.now other.now images row) }
 {
     let one_units = units_of(&one.slots);
     let other_units = units_of(&other.slots);
-    for row in 0..count {
+    let mut row = 0;
+    while row < count {
         if !agree_in_row(
             one,
             &one_units[..SECTOR * one.slots.len()],
@@ -73,6 +69,7 @@ fn agree_in_rows(one: &Geometry, other: &Geometry, images: u8, count: u64) -> bo
         ) {
             return false;
         }
+        row = stretch_end(&one.head, &other.head, row);
     }
     true
 }

@@ -3,17 +3,17 @@ ghost use Rattle.std.specs.Prelude.{◌≡◌, ◌<◌, ◌≤◌, ◌*◌, ℕ,
 ghost use Rattle.raid_params.specs.Size.{data_blocks as data_blocks_of};
 ghost use Rattle.raid_params.specs.Validity.{is_shaped};
 ghost use Rattle.raid_terms.specs.Cells.{row_cells as row_cells_of};
-ghost use Rattle.volume_classes.specs.Coefficients.{AreUnits, coefficient, period as period_of_head};
+ghost use Rattle.volume_classes.specs.Coefficients.{AreUnits, coefficient, turns as turns_of};
 
 use outside::SECTOR;
 use pq_parity::solve;
 use raid_layouts::slot_of_item;
 use raid_params::{Cell, Geometry, Head, Pattern};
 
-/// After how many rows a layout begins anew.
-pub(crate) fn period(head: &Head) -> u8
+/// After how many turns a layout begins anew.
+pub(crate) fn turns(head: &Head) -> u8
     requires { 1 ≤ head.now.members }
-    ensures { result ≡ period_of_head head.now }
+    ensures { result ≡ turns_of head.now }
 {
     match head.pattern {
         Pattern::La6 | Pattern::Ra6 | Pattern::Ls6 | Pattern::Rs6 | Pattern::ParityFirst6 =>

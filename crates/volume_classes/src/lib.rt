@@ -1,8 +1,9 @@
 //! Which parameter sets give the same volume, whatever the images hold.
 //!
 //! A byte of a volume is a sum, over the images, of a coefficient times the image's byte in the same column. The
-//! coefficients are those of the set alone, and repeat from row to row. So [`same_volume`] compares them, and sets that
-//! break no rule are alike exactly where they are equal ([`coefficients_tell`]). [`classes`] reads a list of sets and
+//! coefficients are those of the set alone; they stay the same while its parity stays, and repeat after a period. So
+//! [`same_volume`] compares them where the parity of a set moves, and sets that break no rule are alike exactly where they
+//! are equal ([`coefficients_tell`]). [`classes`] reads a list of sets and
 //! numbers their classes.
 //!
 //! When sets are alike stands in `specs/Alike`, coefficients in `specs/Coefficients`, set lists in `specs/SetLists`, and
@@ -16,6 +17,7 @@ mod fault;
 mod laws;
 mod numbering;
 mod reading;
+mod stretches;
 mod tables;
 mod units;
 mod writing;

@@ -4,25 +4,27 @@ ghost use Rattle.raid_params.specs.Size.{rows as rows_of};
 ghost use Rattle.raid_params.specs.Validity.{first_fault, is_shaped, is_valid_head};
 ghost use Rattle.raid_params.specs.declared.types.Geometry.{Geometry as GeometryOf};
 ghost use Rattle.volume_classes.specs.Alike.{AreAlike};
-ghost use Rattle.volume_classes.specs.Coefficients.{AgreeInRow, AreUnits, HaveEqualSizes, own_rows as own_rows_of, period as period_of_head, row_coefficients};
+ghost use Rattle.volume_classes.specs.Coefficients.{AgreeInRow, AreUnits, HaveEqualSizes, own_turns as own_turns_of, row_coefficients, turn_coefficients, turns as turns_of};
+ghost use Rattle.raid_terms.specs.Role.{turn as turn_of};
 ghost use Rattle.volume_classes.specs.Tables.{HasRow, HasSet, IsTable, RowsAgree};
 
-use crate::alike::{have_equal_sizes, told_rows};
-use crate::coefficients::{period, put_coefficients};
+use crate::alike::have_equal_sizes;
+use crate::coefficients::{put_coefficients, turns};
+use crate::stretches::{stretch_end, told_rows};
 use crate::units::units_of;
 use address_map::{data_blocks, rows};
 use outside::{Memory, SECTOR};
-use raid_layouts::row_cells;
+use raid_layouts::{row_cells, turn};
 use raid_params::{Geometry, Head};
 use std::alloc::Global;
 use value_text::Text;
 
-/// The coefficients of a set in the rows below its period and its number of rows.
+/// The coefficients of a set in the first rows of its turns, before its layout begins anew.
 #[derive(Drop)]
 pub struct Table {
     /// The set's parameters but for its slots.
     pub head: Head,
-    /// The coefficients: row by row, item by item, image by image.
+    /// The coefficients: turn by turn, item by item, image by image.
     pub coefficients: Text,
 }
 
@@ -33,9 +35,9 @@ pub(crate) fn table_of(alloc: Global, geo: &Geometry, images: u8, end: u64) -> R
 {
     let mut coefficients = Text::new(alloc);
     let units = units_of(&geo.slots);
-    for row in 0..own_rows(&geo.head, end) {
+    for turn in 0..own_turns(&geo.head, end) {
         let slots = &units[..SECTOR * geo.slots.len()];
-        add_row(&mut coefficients, geo, slots, images, row)?;
+        add_row(&mut coefficients, geo, slots, images, turn * geo.head.delay)?;
     }
     Ok(Table {
         head: geo.head,
@@ -43,12 +45,12 @@ pub(crate) fn table_of(alloc: Global, geo: &Geometry, images: u8, end: u64) -> R
     })
 }
 
-/// How many rows a table has.
-fn own_rows(head: &Head, end: u64) -> u64
+/// How many turns a table has.
+fn own_turns(head: &Head, end: u64) -> u64
     requires { IsTrue (is_valid_head head.now) }
-    ensures { result ≡ own_rows_of head.now end }
+    ensures { result ≡ own_turns_of head.now end }
 {
-    rows(head, end).min(u64::from(period(head)))
+    rows(head, end).min(u64::from(turns(head)))
 }
 
 /// Appends the coefficients of a row.
@@ -86,16 +88,21 @@ pub(crate) fn are_alike(one: &Table, other: &Table, images: u8, end: u64) -> boo
 }
 
 /// Whether two tables agree in the rows that tell.
+///
+/// They are compared where a stretch of rows begins over which neither set turns.
 fn rows_agree(one: &Table, other: &Table, images: u8, end: u64) -> bool
     requires one { HasSet images end one.now }
     requires other { HasSet images end other.now }
     requires sizes { HaveEqualSizes one.now.head other.now.head }
     ensures { (a b : GeometryOf) → IsTable images end a one.now → IsTable images end b other.now → IsTrue result ↔ RowsAgree a b images end }
 {
-    for row in 0..told_rows(&one.head, &other.head, end) {
+    let count = told_rows(&one.head, &other.head, end);
+    let mut row = 0;
+    while row < count {
         if !row_agrees(one, other, images, row) {
             return false;
         }
+        row = stretch_end(&one.head, &other.head, row);
     }
     true
 }
@@ -117,18 +124,18 @@ fn are_equal(left: &[u8], right: &[u8]) -> bool
     left == right
 }
 
-/// The coefficients of a row, which a table has by its number modulo the period.
+/// The coefficients of a row, which a table has by its turn modulo the turns before the layout begins anew.
 fn row_of(table: &Table, images: u8, row: u64) -> &[u8]
     requires { HasRow images row table.now }
     ensures { (geo : GeometryOf) (end : ℕ) → IsTable images end geo table.entry.now → row < rows_of geo.head end →
-        result.now ≡ row_coefficients geo images (row % period_of_head geo.head) }
+        result.now ≡ turn_coefficients geo images (turn_of geo.head row % turns_of geo.head) }
 {
     let width = usize::from(data_blocks(&table.head)) * usize::from(images);
-    let place = (row % u64::from(period(&table.head))) as usize;
+    let place = (turn(&table.head, row) % u64::from(turns(&table.head))) as usize;
     row_at(table.coefficients.as_slice(), width, place)
 }
 
-/// A row of coefficients, where each row has so many bytes.
+/// A row of a table, where each row has so many bytes.
 fn row_at(coefficients: &[u8], width: usize, row: usize) -> &[u8]
     requires { width * row + width ≤ length coefficients.now }
     ensures { result.now ≡ take width (drop (width * row) coefficients.entry.now) }

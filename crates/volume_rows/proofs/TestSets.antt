@@ -6,12 +6,12 @@ use Rattle.outside.specs.Seen.{Image}
 use Rattle.near_mirror.specs.Validity.{first_fault as near_fault}
 use Rattle.near_mirror.specs.declared.types.NearSet.{NearSet}
 use Rattle.near_volume.specs.Mirrored.{IsMirrored}
-use Rattle.raid_params.specs.Validity.{first_fault, shape_fault}
+use Rattle.raid_params.specs.Validity.{first_fault}
 use Rattle.raid_params.specs.Wide.{wide_fault}
 use Rattle.raid_params.specs.declared.wide.Wide.{Wide}
 use Rattle.rescue_map.specs.Damaged.{IsDamaged}
 use Rattle.rescue_map.specs.Salvaged.{IsSalvaged}
-use Rattle.rescue_map.proofs.Padding.{no_fault, ruled_shape}
+use Rattle.raid_params.proofs.Ruled.{wide_shape}
 use Rattle.rescue_map.proofs.Passed.{damage_of}
 use Rattle.raid_params.specs.declared.types.Geometry.{Geometry}
 use Rattle.virtual_volume.specs.Served.{IsServed}
@@ -83,4 +83,4 @@ wide_salvaged set end n attached ruled near none long = record {
 
 pub wide_damaged : (set : Wide) (end n : ℕ) → wide_fault set n end ≡ None → end < 2 ^ 55 → IsDamaged set end
 wide_damaged set end n ruled near =
-    damage_of set end (record { images = n; shaped = ruled_shape (shape_fault set.geo n) set.geo end (no_fault set n (first_fault set.geo n end) ruled) }) near
+    damage_of set end (record { images = n; shaped = wide_shape set n end ruled }) near

@@ -38,6 +38,7 @@ pub fn set_of<R: Abort>(
         level,
         members,
         pattern,
+        delay: 1,
         syndrome,
         chunk,
         offset: 0,

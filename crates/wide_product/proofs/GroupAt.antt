@@ -53,10 +53,12 @@ each_start bounds =
     (each_flat P (λ l. Unit {0}) _ bounds.levels.items (λ level t.
     each_flat P (λ l. Unit {0}) _ bounds.members.items (λ members t.
     each_flat P (λ l. Unit {0}) _ bounds.patterns.items (λ pattern t.
+    each_flat P (λ l. Unit {0}) _ bounds.delays.items (λ delay t.
     each_flat P (λ l. Unit {0}) _ bounds.syndromes.items (λ syndrome t.
-    each_flat P (λ l. Unit {0}) (λ chunk. record { level = level; members = members; pattern = pattern; syndrome = syndrome; chunk = chunk; offset = 0 } ∷ []) bounds.chunks.items (λ chunk t. (refl, tt))
+    each_flat P (λ l. Unit {0}) (λ chunk. record { level = level; members = members; pattern = pattern; delay = delay; syndrome = syndrome; chunk = chunk; offset = 0 } ∷ []) bounds.chunks.items (λ chunk t. (refl, tt))
     (each_any (λ l. Unit {0}) (λ l. tt) bounds.chunks.items))
     (each_any (λ l. Unit {0}) (λ l. tt) bounds.syndromes.items))
+    (each_any (λ l. Unit {0}) (λ l. tt) bounds.delays.items))
     (each_any (λ l. Unit {0}) (λ l. tt) bounds.patterns.items))
     (each_any (λ l. Unit {0}) (λ l. tt) bounds.members.items))
     (each_any (λ l. Unit {0}) (λ l. tt) bounds.levels.items))

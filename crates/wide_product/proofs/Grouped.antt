@@ -94,7 +94,7 @@ same_are_equal (x ∷ a) (y ∷ b) e =
 abbrev pub same_start : Geometry → Head → Bool
 same_start geo head =
     (level_place geo.head.level == level_place head.level && geo.head.members == head.members)
-    && ((pattern_place geo.head.pattern == pattern_place head.pattern && syndrome_place geo.head.syndrome == syndrome_place head.syndrome) && geo.head.chunk == head.chunk)
+    && (((pattern_place geo.head.pattern == pattern_place head.pattern && geo.head.delay == head.delay) && syndrome_place geo.head.syndrome == syndrome_place head.syndrome) && geo.head.chunk == head.chunk)
 
 regroup : (a b c o s t : Bool) → (t ≡ true → o ≡ true) → (((a && (b && (c && o))) && s) && t) ≡ (((a && (b && c)) && t) && s)
 regroup a b c o s true h = ap (λ (x : Bool). ((a && (b && (c && x))) && s) && true) (h refl) ∙ simple a b c s
@@ -129,7 +129,7 @@ based_place plan head set greatest =
     position_map (is_same_based set) (based_set head) (pairs (bases_of plan) (lists plan head))
     ∙ position_same (λ (p : List ℕ × List (Option ℕ)). is_same_based set (based_set head p)) (λ (p : List ℕ × List (Option ℕ)). (same_start set.0 head && same_bases set.1 p.0) && same_slots set.0.slots.items p.1) (pairs (bases_of plan) (lists plan head))
     (λ p. regroup (level_place set.0.head.level == level_place head.level && set.0.head.members == head.members)
-    (pattern_place set.0.head.pattern == pattern_place head.pattern && syndrome_place set.0.head.syndrome == syndrome_place head.syndrome) (set.0.head.chunk == head.chunk)
+    ((pattern_place set.0.head.pattern == pattern_place head.pattern && set.0.head.delay == head.delay) && syndrome_place set.0.head.syndrome == syndrome_place head.syndrome) (set.0.head.chunk == head.chunk)
     (set.0.head.offset == greatest_base p.0) (same_slots set.0.slots.items p.1) (same_bases set.1 p.0)
     (λ same. eq-eqb set.0.head.offset (greatest_base p.0) (greatest ∙ ap greatest_base (same_are_equal set.1 p.0 same))))
     ∙ position_pairs (λ (bases : List ℕ). same_start set.0 head && same_bases set.1 bases) (same_slots set.0.slots.items) (bases_of plan) (lists plan head)
@@ -143,7 +143,7 @@ common_place plan head geo some =
     position_map (is_same_set first) (common_set head) (pairs plan.bounds.offsets.items (lists plan head))
     ∙ position_same (λ (p : ℕ × List (Option ℕ)). is_same_set first (common_set head p)) (λ (p : ℕ × List (Option ℕ)). (same_start geo head && first.head.offset == p.0) && same_slots geo.slots.items p.1) (pairs plan.bounds.offsets.items (lists plan head))
     (λ p. regroup_common (level_place geo.head.level == level_place head.level && geo.head.members == head.members)
-    (pattern_place geo.head.pattern == pattern_place head.pattern && syndrome_place geo.head.syndrome == syndrome_place head.syndrome) (geo.head.chunk == head.chunk)
+    ((pattern_place geo.head.pattern == pattern_place head.pattern && geo.head.delay == head.delay) && syndrome_place geo.head.syndrome == syndrome_place head.syndrome) (geo.head.chunk == head.chunk)
     (first.head.offset == p.0) (same_slots geo.slots.items p.1))
     ∙ position_pairs (λ (offset : ℕ). same_start geo head && first.head.offset == offset) (same_slots geo.slots.items) plan.bounds.offsets.items (lists plan head)
     ∙ ap (λ (o : Option ℕ). joined (length (lists plan head)) o (position (same_slots geo.slots.items) (lists plan head)))

@@ -71,6 +71,7 @@ pub record IsMade (bounds : Bounds) (head : Head) : Type 0 where
   pub level : Contains bounds.levels.items head.level
   pub members : Contains bounds.members.items head.members
   pub pattern : Contains bounds.patterns.items head.pattern
+  pub delay : Contains bounds.delays.items head.delay
   pub syndrome : Contains bounds.syndromes.items head.syndrome
   pub chunk : Contains bounds.chunks.items head.chunk
 
@@ -83,11 +84,13 @@ each_made bounds =
     (each_flat (IsMade bounds) (Contains bounds.levels.items) _ bounds.levels.items (λ level l.
     each_flat (IsMade bounds) (Contains bounds.members.items) _ bounds.members.items (λ members m.
     each_flat (IsMade bounds) (Contains bounds.patterns.items) _ bounds.patterns.items (λ pattern p.
+    each_flat (IsMade bounds) (Contains bounds.delays.items) _ bounds.delays.items (λ delay d.
     each_flat (IsMade bounds) (Contains bounds.syndromes.items) _ bounds.syndromes.items (λ syndrome s.
-    each_flat (IsMade bounds) (Contains bounds.chunks.items) (λ chunk. record { level = level; members = members; pattern = pattern; syndrome = syndrome; chunk = chunk; offset = 0 } ∷ []) bounds.chunks.items
-    (λ chunk c. (record { level = l; members = m; pattern = p; syndrome = s; chunk = c }, tt))
+    each_flat (IsMade bounds) (Contains bounds.chunks.items) (λ chunk. record { level = level; members = members; pattern = pattern; delay = delay; syndrome = syndrome; chunk = chunk; offset = 0 } ∷ []) bounds.chunks.items
+    (λ chunk c. (record { level = l; members = m; pattern = p; delay = d; syndrome = s; chunk = c }, tt))
     (each_among bounds.chunks.items))
     (each_among bounds.syndromes.items))
+    (each_among bounds.delays.items))
     (each_among bounds.patterns.items))
     (each_among bounds.members.items))
     (each_among bounds.levels.items))
@@ -105,15 +108,17 @@ head_held plan part is =
     let level = index_of plan.bounds.levels.items part.head.level known.0.level in
     let members = index_of plan.bounds.members.items part.head.members known.0.members in
     let pattern = index_of plan.bounds.patterns.items part.head.pattern known.0.pattern in
+    let delay = index_of plan.bounds.delays.items part.head.delay known.0.delay in
     let syndrome = index_of plan.bounds.syndromes.items part.head.syndrome known.0.syndrome in
-    let one : Level → ℕ → Pattern → Syndrome → List Head = λ l m p s. record { level = l; members = m; pattern = p; syndrome = s; chunk = part.head.chunk; offset = part.head.offset } ∷ [] in
-    let all = index_of (flat_map (λ l. flat_map (λ m. flat_map (λ p. flat_map (λ s. one l m p s) plan.bounds.syndromes.items) plan.bounds.patterns.items) plan.bounds.members.items) plan.bounds.levels.items) part.head
-    (held_flat (λ l. flat_map (λ m. flat_map (λ p. flat_map (λ s. one l m p s) plan.bounds.syndromes.items) plan.bounds.patterns.items) plan.bounds.members.items) plan.bounds.levels.items part.head.level part.head level.0 level.1
-    (held_flat (λ m. flat_map (λ p. flat_map (λ s. one part.head.level m p s) plan.bounds.syndromes.items) plan.bounds.patterns.items) plan.bounds.members.items part.head.members part.head members.0 members.1
-    (held_flat (λ p. flat_map (λ s. one part.head.level part.head.members p s) plan.bounds.syndromes.items) plan.bounds.patterns.items part.head.pattern part.head pattern.0 pattern.1
-    (held_flat (λ s. one part.head.level part.head.members part.head.pattern s) plan.bounds.syndromes.items part.head.syndrome part.head syndrome.0 syndrome.1
-    (first_held part.head []))))) in
-    held_kept is_valid_head (flat_map (λ l. flat_map (λ m. flat_map (λ p. flat_map (λ s. one l m p s) plan.bounds.syndromes.items) plan.bounds.patterns.items) plan.bounds.members.items) plan.bounds.levels.items) part.head all.0 all.1 known.1
+    let one : Level → ℕ → Pattern → ℕ → Syndrome → List Head = λ l m p d s. record { level = l; members = m; pattern = p; delay = d; syndrome = s; chunk = part.head.chunk; offset = part.head.offset } ∷ [] in
+    let all = index_of (flat_map (λ l. flat_map (λ m. flat_map (λ p. flat_map (λ d. flat_map (λ s. one l m p d s) plan.bounds.syndromes.items) plan.bounds.delays.items) plan.bounds.patterns.items) plan.bounds.members.items) plan.bounds.levels.items) part.head
+    (held_flat (λ l. flat_map (λ m. flat_map (λ p. flat_map (λ d. flat_map (λ s. one l m p d s) plan.bounds.syndromes.items) plan.bounds.delays.items) plan.bounds.patterns.items) plan.bounds.members.items) plan.bounds.levels.items part.head.level part.head level.0 level.1
+    (held_flat (λ m. flat_map (λ p. flat_map (λ d. flat_map (λ s. one part.head.level m p d s) plan.bounds.syndromes.items) plan.bounds.delays.items) plan.bounds.patterns.items) plan.bounds.members.items part.head.members part.head members.0 members.1
+    (held_flat (λ p. flat_map (λ d. flat_map (λ s. one part.head.level part.head.members p d s) plan.bounds.syndromes.items) plan.bounds.delays.items) plan.bounds.patterns.items part.head.pattern part.head pattern.0 pattern.1
+    (held_flat (λ d. flat_map (λ s. one part.head.level part.head.members part.head.pattern d s) plan.bounds.syndromes.items) plan.bounds.delays.items part.head.delay part.head delay.0 delay.1
+    (held_flat (λ s. one part.head.level part.head.members part.head.pattern part.head.delay s) plan.bounds.syndromes.items part.head.syndrome part.head syndrome.0 syndrome.1
+    (first_held part.head [])))))) in
+    held_kept is_valid_head (flat_map (λ l. flat_map (λ m. flat_map (λ p. flat_map (λ d. flat_map (λ s. one l m p d s) plan.bounds.syndromes.items) plan.bounds.delays.items) plan.bounds.patterns.items) plan.bounds.members.items) plan.bounds.levels.items) part.head all.0 all.1 known.1
 
 -- bases are below 2^54, and so is the greatest of them
 pub near_bases : (plan : Plan) (part : Part) → IsPlan plan → plan.each ≡ true → IsPartOf plan part → All (λ base. base < 2 ^ 54) part.bases.items
@@ -144,6 +149,9 @@ part_plan_is plan part is_plan each is =
         members = bounds.members;
         few_members = bounds.few_members;
         patterns = bounds.patterns;
+        delays = bounds.delays;
+        few_delays = bounds.few_delays;
+        short_delays = bounds.short_delays;
         syndromes = bounds.syndromes;
         chunks = just_rising part.head.chunk;
         powers = All-cons (λ c. IsTrue (is_chunk c)) part.head.chunk [] (each_get (λ c. IsTrue (is_chunk c)) plan.bounds.chunks.items chunk.0 part.head.chunk (recursion_from_All (λ c. IsTrue (is_chunk c)) plan.bounds.chunks.items bounds.powers) chunk.1) (All-nil (λ c. IsTrue (is_chunk c)));
@@ -220,14 +228,15 @@ less_starts plan part is =
     let known = part_made plan part is in
     let chunk = index_of plan.bounds.chunks.items part.head.chunk known.0.chunk in
     let bounds = plan.bounds in
-    let make : Level → ℕ → Pattern → Syndrome → ℕ → Head = λ l m p s c. record { level = l; members = m; pattern = p; syndrome = s; chunk = c; offset = 0 } in
-    let few : Level → ℕ → Pattern → Syndrome → List Head = λ l m p s. make l m p s part.head.chunk ∷ [] in
-    let all : Level → ℕ → Pattern → Syndrome → List Head = λ l m p s. flat_map (λ c. make l m p s c ∷ []) plan.bounds.chunks.items in
-    less_flat (lists plan) is_valid_head (λ l. flat_map (λ m. flat_map (λ p. flat_map (λ s. few l m p s) plan.bounds.syndromes.items) plan.bounds.patterns.items) plan.bounds.members.items) (λ l. flat_map (λ m. flat_map (λ p. flat_map (λ s. all l m p s) plan.bounds.syndromes.items) plan.bounds.patterns.items) plan.bounds.members.items) bounds.levels.items (λ l.
-    less_flat (lists plan) is_valid_head (λ m. flat_map (λ p. flat_map (λ s. few l m p s) plan.bounds.syndromes.items) plan.bounds.patterns.items) (λ m. flat_map (λ p. flat_map (λ s. all l m p s) plan.bounds.syndromes.items) plan.bounds.patterns.items) bounds.members.items (λ m.
-    less_flat (lists plan) is_valid_head (λ p. flat_map (λ s. few l m p s) plan.bounds.syndromes.items) (λ p. flat_map (λ s. all l m p s) plan.bounds.syndromes.items) bounds.patterns.items (λ p.
-    less_flat (lists plan) is_valid_head (λ s. few l m p s) (λ s. all l m p s) bounds.syndromes.items (λ s.
-    less_one (lists plan) is_valid_head (make l m p s) bounds.chunks.items part.head.chunk chunk.0 chunk.1))))
+    let make : Level → ℕ → Pattern → ℕ → Syndrome → ℕ → Head = λ l m p d s c. record { level = l; members = m; pattern = p; delay = d; syndrome = s; chunk = c; offset = 0 } in
+    let few : Level → ℕ → Pattern → ℕ → Syndrome → List Head = λ l m p d s. make l m p d s part.head.chunk ∷ [] in
+    let all : Level → ℕ → Pattern → ℕ → Syndrome → List Head = λ l m p d s. flat_map (λ c. make l m p d s c ∷ []) plan.bounds.chunks.items in
+    less_flat (lists plan) is_valid_head (λ l. flat_map (λ m. flat_map (λ p. flat_map (λ d. flat_map (λ s. few l m p d s) plan.bounds.syndromes.items) plan.bounds.delays.items) plan.bounds.patterns.items) plan.bounds.members.items) (λ l. flat_map (λ m. flat_map (λ p. flat_map (λ d. flat_map (λ s. all l m p d s) plan.bounds.syndromes.items) plan.bounds.delays.items) plan.bounds.patterns.items) plan.bounds.members.items) bounds.levels.items (λ l.
+    less_flat (lists plan) is_valid_head (λ m. flat_map (λ p. flat_map (λ d. flat_map (λ s. few l m p d s) plan.bounds.syndromes.items) plan.bounds.delays.items) plan.bounds.patterns.items) (λ m. flat_map (λ p. flat_map (λ d. flat_map (λ s. all l m p d s) plan.bounds.syndromes.items) plan.bounds.delays.items) plan.bounds.patterns.items) bounds.members.items (λ m.
+    less_flat (lists plan) is_valid_head (λ p. flat_map (λ d. flat_map (λ s. few l m p d s) plan.bounds.syndromes.items) plan.bounds.delays.items) (λ p. flat_map (λ d. flat_map (λ s. all l m p d s) plan.bounds.syndromes.items) plan.bounds.delays.items) bounds.patterns.items (λ p.
+    less_flat (lists plan) is_valid_head (λ d. flat_map (λ s. few l m p d s) plan.bounds.syndromes.items) (λ d. flat_map (λ s. all l m p d s) plan.bounds.syndromes.items) bounds.delays.items (λ d.
+    less_flat (lists plan) is_valid_head (λ s. few l m p d s) (λ s. all l m p d s) bounds.syndromes.items (λ s.
+    less_one (lists plan) is_valid_head (make l m p d s) bounds.chunks.items part.head.chunk chunk.0 chunk.1)))))
 
 pub padded_few : (plan : Plan) (part : Part) → IsPlan plan → plan.each ≡ true → IsPartOf plan part → total_of (part_plan plan part) ≤ wide_total plan
 unfolding total_of

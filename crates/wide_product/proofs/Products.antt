@@ -96,10 +96,12 @@ each_members plan is_plan =
     (each_flat P (λ l. Unit {0}) _ bounds.levels.items (λ level t.
     each_flat P (λ n. (2 ≤ n) × (n ≤ MOST)) _ bounds.members.items (λ members few.
     each_flat P (λ l. Unit {0}) _ bounds.patterns.items (λ pattern t.
+    each_flat P (λ l. Unit {0}) _ bounds.delays.items (λ delay t.
     each_flat P (λ l. Unit {0}) _ bounds.syndromes.items (λ syndrome t.
-    each_flat P (λ l. Unit {0}) (λ chunk. record { level = level; members = members; pattern = pattern; syndrome = syndrome; chunk = chunk; offset = 0 } ∷ []) bounds.chunks.items (λ chunk t. (few.1, tt))
+    each_flat P (λ l. Unit {0}) (λ chunk. record { level = level; members = members; pattern = pattern; delay = delay; syndrome = syndrome; chunk = chunk; offset = 0 } ∷ []) bounds.chunks.items (λ chunk t. (few.1, tt))
     (each_any (λ l. Unit {0}) (λ l. tt) bounds.chunks.items))
     (each_any (λ l. Unit {0}) (λ l. tt) bounds.syndromes.items))
+    (each_any (λ l. Unit {0}) (λ l. tt) bounds.delays.items))
     (each_any (λ l. Unit {0}) (λ l. tt) bounds.patterns.items))
     (recursion_from_All (λ n. (2 ≤ n) × (n ≤ MOST)) bounds.members.items is_plan.bounds.few_members))
     (each_any (λ l. Unit {0}) (λ l. tt) bounds.levels.items))

@@ -73,9 +73,10 @@ heads_spread bounds =
     kept_flat is_valid_head (spread bounds.offsets.items) _ _ bounds.levels.items (λ level.
     kept_flat is_valid_head (spread bounds.offsets.items) _ _ bounds.members.items (λ members.
     kept_flat is_valid_head (spread bounds.offsets.items) _ _ bounds.patterns.items (λ pattern.
+    kept_flat is_valid_head (spread bounds.offsets.items) _ _ bounds.delays.items (λ delay.
     kept_flat is_valid_head (spread bounds.offsets.items) _ _ bounds.syndromes.items (λ syndrome.
-    kept_flat is_valid_head (spread bounds.offsets.items) (λ chunk. spread bounds.offsets.items (record { level = level; members = members; pattern = pattern; syndrome = syndrome; chunk = chunk; offset = 0 })) (λ chunk. record { level = level; members = members; pattern = pattern; syndrome = syndrome; chunk = chunk; offset = 0 } ∷ []) bounds.chunks.items (λ chunk.
-    kept_spread (record { level = level; members = members; pattern = pattern; syndrome = syndrome; chunk = chunk; offset = 0 }) bounds.offsets.items)))))
+    kept_flat is_valid_head (spread bounds.offsets.items) (λ chunk. spread bounds.offsets.items (record { level = level; members = members; pattern = pattern; delay = delay; syndrome = syndrome; chunk = chunk; offset = 0 })) (λ chunk. record { level = level; members = members; pattern = pattern; delay = delay; syndrome = syndrome; chunk = chunk; offset = 0 } ∷ []) bounds.chunks.items (λ chunk.
+    kept_spread (record { level = level; members = members; pattern = pattern; delay = delay; syndrome = syndrome; chunk = chunk; offset = 0 }) bounds.offsets.items))))))
 
 -- the sets of the heads that differ in their offset alone
 common_are : (plan : Plan) (head : Head) → flat_map (sets_of_head (length plan.lengths.items) plan.bounds) (spread plan.bounds.offsets.items head) ≡ common_in plan head

@@ -1,8 +1,8 @@
 -- No set stands twice in a product with bases, so that ranks and sets undo each other.
-use Rattle.std.proofs.Common.{rules, ℕ, zero, suc, ◌≡◌, Bool, true, false, ◌&&◌, ◌==◌, cond, List, [], ◌∷◌, length, map, filter, refl, sym, ap, ap₂, ◌∙◌, subst, arith, inl, inr, Option, Some, None, slice_get, get_or, option_map}
+use Rattle.std.proofs.Common.{rules, ℕ, zero, suc, ◌≡◌, Bool, true, false, ◌&&◌, ◌==◌, cond, List, [], ◌∷◌, length, map, filter, refl, sym, ap, ap₂, ◌∙◌, subst, Option, Some, None, slice_get, get_or}
 use Rattle.std.specs.List.{flat_map, position, AllByRecursion}
 use Rattle.std.specs.List.Sorted.{IsStrictlyIncreasing}
-use Rattle.std.proofs.lemmas.Bool.{and_from, and_parts, cases_Bool, eq-eqb}
+use Rattle.std.proofs.lemmas.Bool.{and_from, and_parts, eq-eqb}
 use Rattle.std.proofs.lemmas.List.{map-id}
 use Rattle.std.proofs.lemmas.List.Quantifiers.{position-Some}
 use Rattle.std.proofs.lemmas.Option.{slice_get-get_or}
@@ -17,12 +17,12 @@ use Rattle.raid_params.specs.declared.types.Syndrome.{Syndrome}
 use Rattle.search_plan.specs.Plans.{IsPlan}
 use Rattle.plan_sets.specs.Sets.{is_same_set, sets_of}
 use Rattle.search_plan.specs.declared.plan.Plan.{Plan}
-use Rattle.slot_math.proofs.Listed.{each_get, each_kept, each_map, each_more}
+use Rattle.slot_math.proofs.Listed.{each_map}
 use Rattle.slot_math.proofs.Positions.{rank_of_element}
 use Rattle.slot_math.specs.Space.{same_slots}
 use Rattle.set_product.proofs.Equal.{same_sets}
-use Rattle.set_product.proofs.Pairs.{flat_pairs, position_map, position_pairs, position_same, position_step}
-use Rattle.set_product.proofs.Ranked.{each_of, keys_of_rising, ranked_flat, ranked_keys, ranked_map, ranked_pairs, Ranked}
+use Rattle.set_product.proofs.Pairs.{flat_pairs, position_map, position_pairs, position_same}
+use Rattle.set_product.proofs.Ranked.{keys_of_rising, ranked_flat, ranked_keys, ranked_kept, ranked_map, ranked_pairs, Ranked}
 use Rattle.set_product.proofs.Uniqueness.{ranked_sets}
 use Rattle.set_product.specs.Heads.{space_of}
 use Rattle.set_product.specs.Pairs.{joined, pairs}
@@ -55,62 +55,21 @@ ranked_bases offsets (suc n) rising i bases e =
     (ranked_pairs (λ a b. a == b) same_bases offsets (base_lists offsets n) (numbers_differ offsets rising) (ranked_bases offsets n rising)))
     i bases e
 
--- what is kept stands once
-kept_apart : {A : Type 0} (t : A → A → Bool) (x : A) (xs : List A) → Ranked t (x ∷ xs) → (t x x ≡ true) × AllByRecursion (λ y. t y x ≡ false) xs × Ranked t xs
-kept_apart {A} t x xs r = (
-  first (t x x) (position (t x) xs) (sym (position_step (t x) x xs) ∙ r 0 x refl),
-  each_of (λ y. t y x ≡ false) xs (λ k y at. (rest k y at).0),
-  λ k y at. (rest k y at).1,
-)
-  where
-    first : (b : Bool) (o : Option ℕ) → cond b (Some 0) (option_map (λ n. suc n) o) ≡ Some 0 → b ≡ true
-    first true o h = refl
-    first false None h = absurd (search rules)
-    first false (Some n) h = absurd (let no : suc n ≡ 0 = some_same (suc n) 0 h in omega arith)
-
-    split : (k : ℕ) (b : Bool) (o : Option ℕ) → cond b (Some 0) (option_map (λ n. suc n) o) ≡ Some (suc k) → (b ≡ false) × (o ≡ Some k)
-    split k true o h = absurd (let no : 0 ≡ suc k = some_same 0 (suc k) h in omega arith)
-    split k false None h = absurd (search rules)
-    split k false (Some n) h = (refl, (let same : suc n ≡ suc k = some_same (suc n) (suc k) h in ap (λ (m : ℕ). Some m) (let e : n ≡ k = omega arith in e)))
-
-    rest : (k : ℕ) (y : A) → slice_get xs k ≡ Some y → (t y x ≡ false) × (position (t y) xs ≡ Some k)
-    rest k y at = split k (t y x) (position (t y) xs) (sym (position_step (t y) x xs) ∙ r (suc k) y at)
-
-joins_apart : {A : Type 0} (t : A → A → Bool) (x : A) (xs : List A) → t x x ≡ true → AllByRecursion (λ y. t y x ≡ false) xs → Ranked t xs → Ranked t (x ∷ xs)
-joins_apart {A} t x xs own apart r zero y e =
-    let same : x ≡ y = some_same x y e in
-    position_step (t y) x xs ∙ ap (λ (b : Bool). cond b (Some 0) (option_map (λ n. suc n) (position (t y) xs))) (ap (λ (z : A). t z x) (sym same) ∙ own)
-joins_apart {A} t x xs own apart r (suc i) y e =
-    position_step (t y) x xs ∙ ap₂ (λ (b : Bool) (o : Option ℕ). cond b (Some 0) (option_map (λ n. suc n) o)) (each_get (λ z. t z x ≡ false) xs i y apart e) (r i y e)
-
-ranked_kept : {A : Type 0} (t : A → A → Bool) (p : A → Bool) (xs : List A) → Ranked t xs → Ranked t (filter p xs)
-ranked_kept t p [] r = λ i y e. absurd (let no : slice_get [] i ≡ Some y = e in search rules)
-ranked_kept {A} t p (x ∷ xs) r =
-    let known = kept_apart t x xs r in
-    let rest = ranked_kept t p xs known.2 in
-    let P : List A → Type 0 = λ ys. Ranked t ys in
-    elim (cases_Bool (p x)) [
-      | inl keeps ↦ subst P (sym (ap (λ (b : Bool). cond b (x ∷ filter p xs) (filter p xs)) keeps))
-          (joins_apart t x (filter p xs) known.0
-          (each_more (λ y. (t y x ≡ false) × (p y ≡ true)) (λ y. t y x ≡ false) (filter p xs) (λ y both. both.0) (each_kept (λ y. t y x ≡ false) p xs known.1)) rest)
-      | inr not ↦ subst P (sym (ap (λ (b : Bool). cond b (x ∷ filter p xs) (filter p xs)) not)) rest
-    ]
-
 -- what a head has beside its offset, as nested pairs
 abbrev Start : Type 0
-Start = (Level × ℕ) × ((Pattern × Syndrome) × ℕ)
+Start = (Level × ℕ) × (((Pattern × ℕ) × Syndrome) × ℕ)
 
 start_head : Start → Head
-start_head c = record { level = c.0.0; members = c.0.1; pattern = c.1.0.0; syndrome = c.1.0.1; chunk = c.1.1; offset = 0 }
+start_head c = record { level = c.0.0; members = c.0.1; pattern = c.1.0.0.0; delay = c.1.0.0.1; syndrome = c.1.0.1; chunk = c.1.1; offset = 0 }
 
 -- two heads have the same beside their offset
 abbrev heads_alike : Head → Head → Bool
 heads_alike a b =
     (level_place a.level == level_place b.level && a.members == b.members)
-    && ((pattern_place a.pattern == pattern_place b.pattern && syndrome_place a.syndrome == syndrome_place b.syndrome) && a.chunk == b.chunk)
+    && (((pattern_place a.pattern == pattern_place b.pattern && a.delay == b.delay) && syndrome_place a.syndrome == syndrome_place b.syndrome) && a.chunk == b.chunk)
 
 abbrev all_starts : Bounds → List Start
-all_starts bounds = pairs (pairs bounds.levels.items bounds.members.items) (pairs (pairs bounds.patterns.items bounds.syndromes.items) bounds.chunks.items)
+all_starts bounds = pairs (pairs bounds.levels.items bounds.members.items) (pairs (pairs (pairs bounds.patterns.items bounds.delays.items) bounds.syndromes.items) bounds.chunks.items)
 
 singles : {A B : Type 0} (f : A → B) (xs : List A) → flat_map (λ x. f x ∷ []) xs ≡ map f xs
 singles f [] = refl
@@ -122,11 +81,12 @@ starts_are bounds =
     let one : Start → List Head = λ c. start_head c ∷ [] in
     ap (filter is_valid_head)
     (sym (sym (singles start_head (all_starts bounds))
-    ∙ flat_pairs (λ (c : Start). start_head c ∷ []) (pairs bounds.levels.items bounds.members.items) (pairs (pairs bounds.patterns.items bounds.syndromes.items) bounds.chunks.items)
-    ∙ flat_pairs (λ (lm : Level × ℕ). flat_map (λ (c : (Pattern × Syndrome) × ℕ). start_head (lm, c) ∷ []) (pairs (pairs bounds.patterns.items bounds.syndromes.items) bounds.chunks.items)) bounds.levels.items bounds.members.items
+    ∙ flat_pairs (λ (c : Start). start_head c ∷ []) (pairs bounds.levels.items bounds.members.items) (pairs (pairs (pairs bounds.patterns.items bounds.delays.items) bounds.syndromes.items) bounds.chunks.items)
+    ∙ flat_pairs (λ (lm : Level × ℕ). flat_map (λ (c : ((Pattern × ℕ) × Syndrome) × ℕ). start_head (lm, c) ∷ []) (pairs (pairs (pairs bounds.patterns.items bounds.delays.items) bounds.syndromes.items) bounds.chunks.items)) bounds.levels.items bounds.members.items
     ∙ flat_same _ _ bounds.levels.items (λ level. flat_same _ _ bounds.members.items (λ members.
-    flat_pairs (λ (c : (Pattern × Syndrome) × ℕ). start_head ((level, members), c) ∷ []) (pairs bounds.patterns.items bounds.syndromes.items) bounds.chunks.items
-    ∙ flat_pairs (λ (ps : Pattern × Syndrome). flat_map (λ (chunk : ℕ). start_head ((level, members), (ps, chunk)) ∷ []) bounds.chunks.items) bounds.patterns.items bounds.syndromes.items))))
+    flat_pairs (λ (c : ((Pattern × ℕ) × Syndrome) × ℕ). start_head ((level, members), c) ∷ []) (pairs (pairs bounds.patterns.items bounds.delays.items) bounds.syndromes.items) bounds.chunks.items
+    ∙ flat_pairs (λ (rs : (Pattern × ℕ) × Syndrome). flat_map (λ (chunk : ℕ). start_head ((level, members), (rs, chunk)) ∷ []) bounds.chunks.items) (pairs bounds.patterns.items bounds.delays.items) bounds.syndromes.items
+    ∙ flat_pairs (λ (r : Pattern × ℕ). flat_map (λ (syndrome : Syndrome). flat_map (λ (chunk : ℕ). start_head ((level, members), ((r, syndrome), chunk)) ∷ []) bounds.chunks.items) bounds.syndromes.items) bounds.patterns.items bounds.delays.items))))
 
 -- heads that differ in more than their offset stand once
 ranked_starts : (plan : Plan) → IsPlan plan → Ranked heads_alike (starts plan.bounds)
@@ -137,28 +97,33 @@ ranked_starts plan is_plan =
     subst P (sym (starts_are plan.bounds))
     (ranked_kept heads_alike is_valid_head (map start_head (all_starts plan.bounds))
     (ranked_map heads_alike start_head (all_starts plan.bounds)
-    (ranked_pairs (λ a b. level_place a.0 == level_place b.0 && a.1 == b.1) (λ a b. (pattern_place a.0.0 == pattern_place b.0.0 && syndrome_place a.0.1 == syndrome_place b.0.1) && a.1 == b.1)
-    (pairs bounds.levels.items bounds.members.items) (pairs (pairs bounds.patterns.items bounds.syndromes.items) bounds.chunks.items)
+    (ranked_pairs (λ a b. level_place a.0 == level_place b.0 && a.1 == b.1) (λ a b. ((pattern_place a.0.0.0 == pattern_place b.0.0.0 && a.0.0.1 == b.0.0.1) && syndrome_place a.0.1 == syndrome_place b.0.1) && a.1 == b.1)
+    (pairs bounds.levels.items bounds.members.items) (pairs (pairs (pairs bounds.patterns.items bounds.delays.items) bounds.syndromes.items) bounds.chunks.items)
     (ranked_pairs (λ a b. level_place a == level_place b) (λ a b. a == b) bounds.levels.items bounds.members.items
     (ranked_keys level_place bounds.levels.items (keys_of_rising level_place bounds.levels.items is_plan.bounds.levels.rising)) (numbers_differ bounds.members.items is_plan.bounds.members.rising))
-    (ranked_pairs (λ a b. pattern_place a.0 == pattern_place b.0 && syndrome_place a.1 == syndrome_place b.1) (λ a b. a == b) (pairs bounds.patterns.items bounds.syndromes.items) bounds.chunks.items
-    (ranked_pairs (λ a b. pattern_place a == pattern_place b) (λ a b. syndrome_place a == syndrome_place b) bounds.patterns.items bounds.syndromes.items
-    (ranked_keys pattern_place bounds.patterns.items (keys_of_rising pattern_place bounds.patterns.items is_plan.bounds.patterns.rising))
+    (ranked_pairs (λ a b. (pattern_place a.0.0 == pattern_place b.0.0 && a.0.1 == b.0.1) && syndrome_place a.1 == syndrome_place b.1) (λ a b. a == b) (pairs (pairs bounds.patterns.items bounds.delays.items) bounds.syndromes.items) bounds.chunks.items
+    (ranked_pairs (λ a b. pattern_place a.0 == pattern_place b.0 && a.1 == b.1) (λ a b. syndrome_place a == syndrome_place b) (pairs bounds.patterns.items bounds.delays.items) bounds.syndromes.items
+    (ranked_pairs (λ a b. pattern_place a == pattern_place b) (λ a b. a == b) bounds.patterns.items bounds.delays.items
+    (ranked_keys pattern_place bounds.patterns.items (keys_of_rising pattern_place bounds.patterns.items is_plan.bounds.patterns.rising)) (numbers_differ bounds.delays.items is_plan.bounds.delays.rising))
     (ranked_keys syndrome_place bounds.syndromes.items (keys_of_rising syndrome_place bounds.syndromes.items is_plan.bounds.syndromes.rising)))
     (numbers_differ bounds.chunks.items is_plan.bounds.chunks.rising)))))
 
 -- a head is alike to itself with another offset
 own_start : (head : Head) (bases : List ℕ) (slots : List (Option ℕ)) → same_start (based_set head (bases, slots)).0 head ≡ true
 own_start head bases slots =
-    let l = eq-eqb (level_place head.level) (level_place head.level) refl in
-    let m = eq-eqb head.members head.members refl in
-    let p = eq-eqb (pattern_place head.pattern) (pattern_place head.pattern) refl in
-    let s = eq-eqb (syndrome_place head.syndrome) (syndrome_place head.syndrome) refl in
-    let c = eq-eqb head.chunk head.chunk refl in
-    and_from (level_place head.level == level_place head.level && head.members == head.members) ((pattern_place head.pattern == pattern_place head.pattern && syndrome_place head.syndrome == syndrome_place head.syndrome) && head.chunk == head.chunk)
-    (and_from (level_place head.level == level_place head.level) (head.members == head.members) l m)
-    (and_from (pattern_place head.pattern == pattern_place head.pattern && syndrome_place head.syndrome == syndrome_place head.syndrome) (head.chunk == head.chunk)
-    (and_from (pattern_place head.pattern == pattern_place head.pattern) (syndrome_place head.syndrome == syndrome_place head.syndrome) p s) c)
+    let level = level_place head.level == level_place head.level in
+    let members = head.members == head.members in
+    let pattern = pattern_place head.pattern == pattern_place head.pattern in
+    let delay = head.delay == head.delay in
+    let syndrome = syndrome_place head.syndrome == syndrome_place head.syndrome in
+    let chunk = head.chunk == head.chunk in
+    and_from (level && members) (((pattern && delay) && syndrome) && chunk)
+    (and_from level members (eq-eqb (level_place head.level) (level_place head.level) refl) (eq-eqb head.members head.members refl))
+    (and_from ((pattern && delay) && syndrome) chunk
+    (and_from (pattern && delay) syndrome
+    (and_from pattern delay (eq-eqb (pattern_place head.pattern) (pattern_place head.pattern) refl) (eq-eqb head.delay head.delay refl))
+    (eq-eqb (syndrome_place head.syndrome) (syndrome_place head.syndrome) refl))
+    (eq-eqb head.chunk head.chunk refl))
 
 -- the sets of one start stand once
 ranked_in : (plan : Plan) (head : Head) → IsPlan plan → Ranked is_same_based (based_in plan head)

@@ -79,6 +79,7 @@ pub(crate) fn with_offset(head: &Head, offset: u64) -> Head
         level: head.level,
         members: head.members,
         pattern: head.pattern,
+        delay: head.delay,
         syndrome: head.syndrome,
         chunk: head.chunk,
         offset,

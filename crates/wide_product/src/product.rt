@@ -45,7 +45,7 @@ fn count_with_bases(plan: &Plan, common: u64) -> u128
 }
 
 /// The parameter set of this rank, counted from 0: the levels of the plan in their order, then the numbers of members, the
-/// patterns, the orders of Q, the chunks, the offsets, and the slot lists. Where each image has an offset, the lists of these,
+/// patterns, the delays, the orders of Q, the chunks, the offsets, and the slot lists. Where each image has an offset, the lists of these,
 /// in lexicographic order, stand in the place of the offsets.
 pub fn product_set(plan: &Plan, rank: u64) -> Wide
     requires plan { IsPlan plan.now }

@@ -17,7 +17,7 @@ use Rattle.raid_params.specs.declared.types.Level.TheVariants.{Raid0, Raid5, Rai
 use Rattle.raid_params.specs.declared.types.Pattern.{Pattern}
 use Rattle.raid_terms.specs.Cells.{row_cells, stands_in}
 use Rattle.raid_terms.specs.Parity.{has_p, is_p, is_sound_row, member_column, passes_parity, tested_rows, unsound_rows}
-use Rattle.raid_terms.specs.Role.{p_at, p_of, q_at, q_of}
+use Rattle.raid_terms.specs.Role.{p_at, p_of, q_at, q_of, turn}
 use Rattle.slot_math.specs.Ways.{AllImages}
 use Rattle.search_plan.specs.declared.plan.Plan.{Plan}
 use Rattle.xor_tables.specs.Rows.{broken_rows, differ, differ_beside_q, differ_in_row, every, holds_every, others, rows_may_hold, tested}
@@ -74,7 +74,7 @@ one_p Raid6 pattern n row some = refl
 p_there : (images : ℕ) (geo : Geometry) (row : ℕ) → IsFull images geo → (geo.head.level ≡ Raid0 → ⊥) → has_p (row_cells geo row) ≡ true
 p_there images geo row full some =
     let count : count_by (λ c. is_p c.part) (row_cells geo row) ≡ number (p_of geo.head row) = count_p geo.head row geo.slots.items full.valid full.members in
-    let one : number (p_of geo.head row) ≡ 1 = one_p geo.head.level geo.head.pattern geo.head.members row some in
+    let one : number (p_of geo.head row) ≡ 1 = one_p geo.head.level geo.head.pattern geo.head.members (turn geo.head row) some in
     counted_any (λ (c : Cell). is_p c.part) (row_cells geo row) (omega arith)
 
 -- in a sound row the images' bytes vanish, all but Q's
@@ -118,7 +118,7 @@ agree_5 images plan geo t full level sound =
     ∙ over_slots (length plan.lengths.items) geo (byte_of images (geo.head.offset + t) x) full
     ∙ placed_same bit_xor (λ s i. byte_of images (geo.head.offset + t) x i)
     (λ s i. cond (stands_in s (q_of geo.head (t / geo.head.chunk))) 0 (byte_of images (geo.head.offset + t) x i)) 0 geo.slots.items
-    (λ s i. sym (ap (λ (q : Option ℕ). cond (stands_in s q) 0 (byte_of images (geo.head.offset + t) x i)) (no_q geo.head.level geo.head.pattern geo.head.members (t / geo.head.chunk) level)))
+    (λ s i. sym (ap (λ (q : Option ℕ). cond (stands_in s q) 0 (byte_of images (geo.head.offset + t) x i)) (no_q geo.head.level geo.head.pattern geo.head.members (turn geo.head (t / geo.head.chunk)) level)))
     ∙ vanish images (length plan.lengths.items) geo t x full (not_zero_5 geo.head.level level) sound below)
 
 -- the image on Q, and its slot

@@ -10,7 +10,7 @@ use Rattle.raid_params.specs.declared.types.Level.{Level}
 use Rattle.raid_params.specs.declared.types.Level.TheVariants.{Raid0, Raid5, Raid6}
 use Rattle.raid_terms.specs.Cells.{row_cells, stands_in}
 use Rattle.raid_terms.specs.Parity.{equations_hold, filled, has_p, has_q, in_p, in_q, is_q, is_sound, is_sound_column, is_sound_row, member_column, p_holds, passes_parity, q_holds, sum_of, tested_rows, unsound_rows}
-use Rattle.raid_terms.specs.Role.{p_of, q_of}
+use Rattle.raid_terms.specs.Role.{p_of, q_of, turn}
 use Rattle.search_plan.specs.declared.plan.Plan.{Plan}
 use Rattle.xor_tables.specs.Rows.{broken_rows, differ, differ_in_row, every, holds_every, is_raid5, needs_table, rows_decide, rows_may_hold, tested, xor_byte}
 use Rattle.xor_tables.proofs.Broken.{agree_5, full_set, no_q, over_slots, IsFull}
@@ -60,7 +60,7 @@ q_missing images geo row full level = elim (cases_Bool (has_q (row_cells geo row
   | inl there ↦
       let some : 1 ≤ count_by (λ c. is_q c.part) (row_cells geo row) = any_counted (λ (c : Cell). is_q c.part) (row_cells geo row) there in
       let count : count_by (λ c. is_q c.part) (row_cells geo row) ≡ number (q_of geo.head row) = count_q geo.head row geo.slots.items full.valid full.members in
-      let none : number (q_of geo.head row) ≡ 0 = ap number (no_q geo.head.level geo.head.pattern geo.head.members row level) in
+      let none : number (q_of geo.head row) ≡ 0 = ap number (no_q geo.head.level geo.head.pattern geo.head.members (turn geo.head row) level) in
       absurd (omega arith)
   | inr none ↦ none
 ]
@@ -73,7 +73,7 @@ column_sum images n geo t x full level =
     (λ s on. stands_elsewhere s (q_of geo.head (t / geo.head.chunk)) ((layout_of geo.head (t / geo.head.chunk) full.valid).p_not_q s (stands_true s (p_of geo.head (t / geo.head.chunk)) on)))
     ∙ placed_same bit_xor (λ s i. cond (stands_in s (q_of geo.head (t / geo.head.chunk))) 0 (byte_of images (geo.head.offset + t) x i))
     (λ s i. byte_of images (geo.head.offset + t) x i) 0 geo.slots.items
-    (λ s i. ap (λ (q : Option ℕ). cond (stands_in s q) 0 (byte_of images (geo.head.offset + t) x i)) (no_q geo.head.level geo.head.pattern geo.head.members (t / geo.head.chunk) level))
+    (λ s i. ap (λ (q : Option ℕ). cond (stands_in s q) 0 (byte_of images (geo.head.offset + t) x i)) (no_q geo.head.level geo.head.pattern geo.head.members (turn geo.head (t / geo.head.chunk)) level))
     ∙ sym (over_slots n geo (byte_of images (geo.head.offset + t) x) full)
     ∙ sym (xor_total (byte_of images (geo.head.offset + t) x) (every n))
 

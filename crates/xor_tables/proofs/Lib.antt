@@ -1,4 +1,5 @@
 pub mod Sets
+pub mod Paces
 pub mod Columns
 pub mod Broken
 pub mod Sectors

@@ -1,5 +1,5 @@
 -- What the images of a prefix break, slot by slot.
-use Rattle.std.proofs.Common.{◌≡◌, ◌≢◌, ℕ, zero, suc, ◌+◌, ◌-◌, ◌^◌, ◌<◌, ◌≤◌, min, List, [], length, set, arith, ap, sym, refl, ◌∙◌, Bool, true, false, not, ◌||◌, nat_le, IsTrue, Option, Some, None, inl, inr}
+use Rattle.std.proofs.Common.{◌≡◌, ◌≢◌, ℕ, zero, suc, ◌+◌, ◌-◌, ◌*◌, ◌^◌, ◌<◌, ◌≤◌, min, List, [], length, set, arith, ap, sym, refl, ◌∙◌, Bool, true, false, not, ◌||◌, nat_le, IsTrue, Option, Some, None, inl, inr}
 use Rattle.std.proofs.lemmas.Bool.{cases_eq, le-leb}
 use Rattle.std.proofs.lemmas.List.{get_or-set_other, get_or-set_same}
 use Rattle.std.specs.List.{range_with_len, slice_index, slice_index_or, sum_by}
@@ -148,10 +148,10 @@ q_within head row slot valid at =
     let below = (layout_of head row valid).q_in slot at in
     omega arith
 
--- what breaks in the row of chunks `turn`, by the image on Q
-pub on_q_at : (table : RowTable) (head : Head) (prefix : List (Option ℕ)) (turn slot : ℕ) → q_of head turn ≡ Some slot →
+-- what breaks in a turn, by the image on Q
+pub on_q_at : (table : RowTable) (head : Head) (prefix : List (Option ℕ)) (turn slot : ℕ) → q_of head (turn * head.delay) ≡ Some slot →
     beside_q table head prefix turn ≡ option_map_or (λ i. slice_index (slice_index_or table.beside turn []) i) (slice_index_or prefix slot None) 0
 on_q_at table head prefix turn slot at = ap (λ (q : Option ℕ). option_map_or (λ i. slice_index (slice_index_or table.beside turn []) i) (option_and_then (λ s. slice_index_or prefix s None) q) 0) at
 
-pub off_q_at : (table : RowTable) (head : Head) (prefix : List (Option ℕ)) (turn : ℕ) → q_of head turn ≡ None → beside_q table head prefix turn ≡ 0
+pub off_q_at : (table : RowTable) (head : Head) (prefix : List (Option ℕ)) (turn : ℕ) → q_of head (turn * head.delay) ≡ None → beside_q table head prefix turn ≡ 0
 off_q_at table head prefix turn at = ap (λ (q : Option ℕ). option_map_or (λ i. slice_index (slice_index_or table.beside turn []) i) (option_and_then (λ s. slice_index_or prefix s None) q) 0) at

@@ -125,31 +125,31 @@ pub sums_of_rows : (images : List (List ℕ)) (n sector rows : ℕ) (room : Room
 sums_of_rows images n sector rows room sums hold are = λ j none lt. sum_of_row images n (sector + j) j room (slice_index_or sums j none) (hold j lt) (are j none lt)
 
 -- a row more
-pub count_more : (images : List (List ℕ)) (count chunk offset t : ℕ) (old : RowTable) (sum : ImageSum) (row : List ℕ) (more : ℕ) → 0 < count → count ≤ length old.beside →
+pub count_more : (images : List (List ℕ)) (count span offset t : ℕ) (old : RowTable) (sum : ImageSum) (row : List ℕ) (more : ℕ) → 0 < count → count ≤ length old.beside →
     IsSumOf images count (offset + t) sum → more ≡ (if not sum.is_zero then 1 else 0) →
-    ((i : ℕ) → i < count → slice_index row i ≡ slice_index (slice_index_or old.beside (t / chunk % count) []) i + (if not (slice_index_or sum.is_image i false) then 1 else 0)) →
-    CountRows images count chunk offset t old → CountRows images count chunk offset (t + 1) (record { all = old.all + more; beside = set old.beside (t / chunk % count) row })
-count_more images count chunk offset t old sum row more some wide says is counts before =
-    let turn : t / chunk % count < count = mod_below (t / chunk) count some in
+    ((i : ℕ) → i < count → slice_index row i ≡ slice_index (slice_index_or old.beside (t / span % count) []) i + (if not (slice_index_or sum.is_image i false) then 1 else 0)) →
+    CountRows images count span offset t old → CountRows images count span offset (t + 1) (record { all = old.all + more; beside = set old.beside (t / span % count) row })
+count_more images count span offset t old sum row more some wide says is counts before =
+    let turn : t / span % count < count = mod_below (t / span) count some in
     record {
       all = ap₂ (λ (a b : ℕ). a + b) before.all (is ∙ ap (λ (b : Bool). cond b 1 0) says.all)
           ∙ sym (sum_more (λ s. cond (differ images (every count) (offset + s)) 1 0) t);
       beside = λ k i low below.
-          each_set {X = List ℕ} (λ k row. (i : ℕ) → i < count → slice_index row i ≡ count_by (λ s. (s / chunk % count == k) && differ images (others count i) (offset + s)) (range_with_len 0 (t + 1)))
-          old.beside count (t / chunk % count) row [] (omega arith)
+          each_set {X = List ℕ} (λ k row. (i : ℕ) → i < count → slice_index row i ≡ count_by (λ s. (s / span % count == k) && differ images (others count i) (offset + s)) (range_with_len 0 (t + 1)))
+          old.beside count (t / span % count) row [] (omega arith)
           (λ i below.
           counts i below
-          ∙ ap₂ (λ (a b : ℕ). a + b) (before.beside (t / chunk % count) i turn below)
+          ∙ ap₂ (λ (a b : ℕ). a + b) (before.beside (t / span % count) i turn below)
           (ap (λ (b : Bool). cond b 1 0) (says.beside i below)
-          ∙ sym (ap (λ (b : Bool). cond (b && differ images (others count i) (offset + t)) 1 0) (eq-eqb (t / chunk % count) (t / chunk % count) refl)))
-          ∙ sym (sum_more (λ s. cond ((s / chunk % count == t / chunk % count) && differ images (others count i) (offset + s)) 1 0) t))
+          ∙ sym (ap (λ (b : Bool). cond (b && differ images (others count i) (offset + t)) 1 0) (eq-eqb (t / span % count) (t / span % count) refl)))
+          ∙ sym (sum_more (λ s. cond ((s / span % count == t / span % count) && differ images (others count i) (offset + s)) 1 0) t))
           (λ k low ne i below.
           before.beside k i low below
-          ∙ (let z : count_by (λ s. (s / chunk % count == k) && differ images (others count i) (offset + s)) (range_with_len 0 t)
-          ≡ count_by (λ s. (s / chunk % count == k) && differ images (others count i) (offset + s)) (range_with_len 0 t) + 0 = omega arith in z)
-          ∙ ap (λ (b : Bool). count_by (λ s. (s / chunk % count == k) && differ images (others count i) (offset + s)) (range_with_len 0 t) + cond (b && differ images (others count i) (offset + t)) 1 0)
-          (sym (ne_eqb (t / chunk % count) k (λ e. ne (sym e))))
-          ∙ sym (sum_more (λ s. cond ((s / chunk % count == k) && differ images (others count i) (offset + s)) 1 0) t))
+          ∙ (let z : count_by (λ s. (s / span % count == k) && differ images (others count i) (offset + s)) (range_with_len 0 t)
+          ≡ count_by (λ s. (s / span % count == k) && differ images (others count i) (offset + s)) (range_with_len 0 t) + 0 = omega arith in z)
+          ∙ ap (λ (b : Bool). count_by (λ s. (s / span % count == k) && differ images (others count i) (offset + s)) (range_with_len 0 t) + cond (b && differ images (others count i) (offset + t)) 1 0)
+          (sym (ne_eqb (t / span % count) k (λ e. ne (sym e))))
+          ∙ sym (sum_more (λ s. cond ((s / span % count == k) && differ images (others count i) (offset + s)) 1 0) t))
           k low i below;
     }
 

@@ -25,9 +25,9 @@ each_any P h (x ∷ xs) = (h x, each_any P h xs)
 -- all combinations of the values of the bounds
 combined : Bounds → List Head
 combined bounds =
-    flat_map (λ level. flat_map (λ members. flat_map (λ pattern. flat_map (λ syndrome. flat_map (λ chunk. map (λ offset.
-    record { level = level; members = members; pattern = pattern; syndrome = syndrome; chunk = chunk; offset = offset })
-    bounds.offsets.items) bounds.chunks.items) bounds.syndromes.items) bounds.patterns.items) bounds.members.items) bounds.levels.items
+    flat_map (λ level. flat_map (λ members. flat_map (λ pattern. flat_map (λ delay. flat_map (λ syndrome. flat_map (λ chunk. map (λ offset.
+    record { level = level; members = members; pattern = pattern; delay = delay; syndrome = syndrome; chunk = chunk; offset = offset })
+    bounds.offsets.items) bounds.chunks.items) bounds.syndromes.items) bounds.delays.items) bounds.patterns.items) bounds.members.items) bounds.levels.items
 
 -- each head is valid
 each_head : (plan : Plan) → AllByRecursion (λ head. Unit {0} × (is_valid_head head ≡ true)) (heads plan.bounds)

@@ -1,6 +1,6 @@
 -- The rows in which a prefix puts an image on Q, counted by their place among as many as there are members.
-use Rattle.std.proofs.Common.{◌≡◌, ◌≢◌, ℕ, zero, suc, ◌+◌, ◌-◌, ◌*◌, ◌/◌, ◌%◌, ◌^◌, ◌<◌, ◌≤◌, min, List, [], ◌∷◌, length, All, Contains, cond, arith, ap, ap₂, sym, refl, subst, ◌∙◌, Bool, true, false, not, ◌==◌, ◌&&◌, ◌||◌, nat_le, Option, Some, None, inl, inr}
-use Rattle.std.proofs.Math.Nat.{mod-eq_of_lt}
+use Rattle.std.proofs.Common.{◌≡◌, ◌≢◌, ℕ, zero, suc, ◌+◌, ◌-◌, ◌*◌, ◌/◌, ◌%◌, ◌^◌, ◌<◌, ◌≤◌, min, List, [], ◌∷◌, length, Contains, cond, arith, ap, ap₂, sym, refl, subst, ◌∙◌, Bool, true, false, not, ◌==◌, ◌&&◌, ◌||◌, nat_le, Option, Some, None, inl, inr}
+use Rattle.std.proofs.Math.Nat.{div-div-eq-div-mul, mod-eq_of_lt, mul-div_cancel}
 use Rattle.std.proofs.lemmas.Bool.{and_parts, cases_eq, cases_lt, eq-eqb, eqb-true, ne_eqb, le-leb, lt-leb}
 use Rattle.std.proofs.lemmas.Bool.Decides.{nat_tests}
 use Rattle.std.proofs.lemmas.Nat.{div-add-mod', mod-mul-add, mod_below, mul-le}
@@ -9,7 +9,7 @@ use Rattle.std.specs.Option.{option_and_then, option_map_or}
 use Rattle.std.specs.Prelude.{IsTrue}
 use Rattle.address_map.proofs.Heads.{whole_below}
 use Rattle.raid_layouts.proofs.Counts.{count_cons}
-use Rattle.raid_layouts.proofs.Levels.{enough}
+use Rattle.raid_layouts.proofs.Levels.{enough, some_delay}
 use Rattle.raid_params.specs.Size.{redundancy}
 use Rattle.raid_params.specs.Validity.{fewest, is_valid_head}
 use Rattle.raid_params.specs.declared.types.Head.{Head}
@@ -23,7 +23,9 @@ use Rattle.search_plan.specs.Plans.{IsPlan}
 use Rattle.search_plan.specs.declared.plan.Plan.{Plan}
 use Rattle.xor_tables.specs.Rows.{broken_rows, differ, differ_beside_q, differ_in_row, holds_every, needs_table, on_q, others, rows_may_hold, tested}
 use Rattle.xor_tables.specs.Early.{IsEarlyTable, IsSettled, IsSettledFor}
+use Rattle.xor_tables.specs.Paces.{pace_of}
 use Rattle.xor_tables.specs.Xors.{beside_q, broken_in, CountRows, IsXorTable, RowTable}
+use Rattle.xor_tables.proofs.Paces.{contained}
 use Rattle.slot_math.proofs.Held.{image_below}
 use Rattle.slot_math.proofs.Placed.{total, total_same, total_sum}
 
@@ -76,8 +78,19 @@ q_again Raid0 pattern n row some = refl
 q_again Raid5 pattern n row some = refl
 q_again Raid6 pattern n row some = ap (λ (s : ℕ). Some s) (double_again pattern n row some)
 
-on_q_again : (head : Head) (prefix : List (Option ℕ)) (row : ℕ) → 0 < head.members → on_q head prefix row ≡ on_q head prefix (row % head.members)
-on_q_again head prefix row some = ap (λ (q : Option ℕ). option_and_then (λ s. slice_index_or prefix s None) q) (q_again head.level head.pattern head.members row some)
+-- the turn of a row of sectors, counted round the members
+abbrev pub turn_at : Head → ℕ → ℕ
+turn_at head t = t / (head.chunk * head.delay) % head.members
+
+-- in each row of sectors Q stands where it does in the first row of chunks of its turn
+on_q_again : (head : Head) (prefix : List (Option ℕ)) (t : ℕ) → 0 < head.members → 0 < head.delay → on_q head prefix (t / head.chunk) ≡ on_q head prefix (turn_at head t * head.delay)
+on_q_again head prefix t some stays =
+    ap at_turn (div-div-eq-div-mul t head.chunk head.delay)
+    ∙ ap (λ (q : Option ℕ). option_and_then (λ s. slice_index_or prefix s None) q) (q_again head.level head.pattern head.members (t / (head.chunk * head.delay)) some)
+    ∙ sym (ap at_turn (mul-div_cancel (turn_at head t) stays))
+  where
+    at_turn : ℕ → Option ℕ
+    at_turn k = option_and_then (λ s. slice_index_or prefix s None) (q_at head.level head.pattern head.members k)
 
 abbrev zero_of : ℕ
 zero_of = 0
@@ -140,42 +153,39 @@ count_none [] p none = refl
 count_none (t ∷ rows) p none = let h = count_cons p t rows in let e : cond (p t) 1 0 ≡ zero_of = ap (λ (b : Bool). cond b 1 0) (none t) in let rest = count_none rows p none in omega arith
 
 -- the sum over the places is the count of the rows
-sum_rows : (images : List (List ℕ)) (plan : Plan) (head : Head) (prefix : List (Option ℕ)) (table : RowTable) → IsPrefixOf (length plan.lengths.items) head.members prefix → length plan.lengths.items ≡ head.members → 0 < head.members →
-    (n : ℕ) → CountRows images (length plan.lengths.items) head.chunk head.offset n table →
+sum_rows : (images : List (List ℕ)) (plan : Plan) (head : Head) (prefix : List (Option ℕ)) (table : RowTable) → IsPrefixOf (length plan.lengths.items) head.members prefix → length plan.lengths.items ≡ head.members → 0 < head.members → 0 < head.delay →
+    (n : ℕ) → CountRows images (length plan.lengths.items) (head.chunk * head.delay) head.offset n table →
     sum_by (beside_q table head prefix) (range_with_len 0 head.members) ≡ count_by (differ_beside_q images plan head prefix) (range_with_len 0 n)
-sum_rows images plan head prefix table is count some n known =
+sum_rows images plan head prefix table is count some stays n known =
     sym (total_sum (beside_q table head prefix) (range_with_len 0 head.members))
-    ∙ total_same ◌+◌ (beside_q table head prefix) (λ k. count_by (λ t. (turn t == k) && p k t) rows) 0 head.members (λ k low high. each k (omega arith) (on_q head prefix k) refl)
-    ∙ by_turn turn p head.members rows (λ t. mod_below (t / head.chunk) head.members some)
-    ∙ count_alike (λ t. p (turn t) t) (differ_beside_q images plan head prefix) rows
-    (λ t. ap (λ (o : Option ℕ). option_map_or (λ i. differ images (others (length plan.lengths.items) i) (head.offset + t)) o false) (sym (on_q_again head prefix (t / head.chunk) some)))
+    ∙ total_same ◌+◌ (beside_q table head prefix) (λ k. count_by (λ t. (turn_at head t == k) && p k t) rows) 0 head.members (λ k low high. each k (omega arith) (on_q head prefix (k * head.delay)) refl)
+    ∙ by_turn (turn_at head) p head.members rows (λ t. mod_below (t / (head.chunk * head.delay)) head.members some)
+    ∙ count_alike (λ t. p (turn_at head t) t) (differ_beside_q images plan head prefix) rows
+    (λ t. ap (λ (o : Option ℕ). option_map_or (λ i. differ images (others (length plan.lengths.items) i) (head.offset + t)) o false) (sym (on_q_again head prefix t some stays)))
   where
     rows : List ℕ
     rows = range_with_len 0 n
 
-    turn : ℕ → ℕ
-    turn t = t / head.chunk % head.members
-
     p : ℕ → ℕ → Bool
-    p k t = option_map_or (λ i. differ images (others (length plan.lengths.items) i) (head.offset + t)) (on_q head prefix k) false
+    p k t = option_map_or (λ i. differ images (others (length plan.lengths.items) i) (head.offset + t)) (on_q head prefix (k * head.delay)) false
 
-    each : (k : ℕ) → k < head.members → (o : Option ℕ) → on_q head prefix k ≡ o →
-        option_map_or (λ i. slice_index (slice_index_or table.beside k []) i) (on_q head prefix k) 0
-        ≡ count_by (λ t. (t / head.chunk % head.members == k) && option_map_or (λ i. differ images (others (length plan.lengths.items) i) (head.offset + t)) (on_q head prefix k) false) (range_with_len 0 n)
+    each : (k : ℕ) → k < head.members → (o : Option ℕ) → on_q head prefix (k * head.delay) ≡ o →
+        option_map_or (λ i. slice_index (slice_index_or table.beside k []) i) (on_q head prefix (k * head.delay)) 0
+        ≡ count_by (λ t. (turn_at head t == k) && option_map_or (λ i. differ images (others (length plan.lengths.items) i) (head.offset + t)) (on_q head prefix (k * head.delay)) false) (range_with_len 0 n)
     each k low None e =
         ap (λ (o : Option ℕ). option_map_or (λ i. slice_index (slice_index_or table.beside k []) i) o 0) e
         ∙ sym (count_none (range_with_len 0 n)
-        (λ t. (t / head.chunk % head.members == k) && option_map_or (λ i. differ images (others (length plan.lengths.items) i) (head.offset + t)) (on_q head prefix k) false)
-        (λ t. ap (λ (o : Option ℕ). (t / head.chunk % head.members == k) && option_map_or (λ i. differ images (others (length plan.lengths.items) i) (head.offset + t)) o false) e
-        ∙ and_none (t / head.chunk % head.members == k)))
+        (λ t. (turn_at head t == k) && option_map_or (λ i. differ images (others (length plan.lengths.items) i) (head.offset + t)) (on_q head prefix (k * head.delay)) false)
+        (λ t. ap (λ (o : Option ℕ). (turn_at head t == k) && option_map_or (λ i. differ images (others (length plan.lengths.items) i) (head.offset + t)) o false) e
+        ∙ and_none (turn_at head t == k)))
     each k low (Some i) e =
-        let below : i < length plan.lengths.items = on_q_below (length plan.lengths.items) head prefix k i is.images e in
+        let below : i < length plan.lengths.items = on_q_below (length plan.lengths.items) head prefix (k * head.delay) i is.images e in
         ap (λ (o : Option ℕ). option_map_or (λ i. slice_index (slice_index_or table.beside k []) i) o 0) e
         ∙ known.beside k i (omega arith) below
-        ∙ count_alike (λ t. (t / head.chunk % length plan.lengths.items == k) && differ images (others (length plan.lengths.items) i) (head.offset + t))
-        (λ t. (t / head.chunk % head.members == k) && option_map_or (λ i. differ images (others (length plan.lengths.items) i) (head.offset + t)) (on_q head prefix k) false)
+        ∙ count_alike (λ t. (t / (head.chunk * head.delay) % length plan.lengths.items == k) && differ images (others (length plan.lengths.items) i) (head.offset + t))
+        (λ t. (turn_at head t == k) && option_map_or (λ i. differ images (others (length plan.lengths.items) i) (head.offset + t)) (on_q head prefix (k * head.delay)) false)
         (range_with_len 0 n)
-        (λ t. ap₂ (λ (n : ℕ) (o : Option ℕ). (t / head.chunk % n == k) && option_map_or (λ j. differ images (others (length plan.lengths.items) j) (head.offset + t)) o false) count (sym e))
+        (λ t. ap₂ (λ (n : ℕ) (o : Option ℕ). (t / (head.chunk * head.delay) % n == k) && option_map_or (λ j. differ images (others (length plan.lengths.items) j) (head.offset + t)) o false) count (sym e))
 
 -- numbers past the largest are past any limit
 pub past : (s b : ℕ) → b < 2 ^ 64 - 1 → nat_le (min s (2 ^ 64 - 1)) b ≡ nat_le s b
@@ -219,10 +229,9 @@ none_counted p a (suc n) none =
     let rest = none_counted p (a + 1) n (λ t low high. none t (omega arith) (omega arith)) in
     omega arith
 
--- the place of a row among the members is that of a row of chunks no later
+-- the turn of a row, counted round the members, begins no later
 turn_low : (t chunk n : ℕ) → t / chunk % n * chunk ≤ t
 turn_low t chunk n =
-    let r = t / chunk in
     let split : t / chunk / n * n + t / chunk % n ≡ t / chunk = div-add-mod' (t / chunk) n in
     let low : t / chunk % n ≤ t / chunk = omega arith in
     let whole : t / chunk * chunk ≤ t = whole_below t chunk (t / chunk) refl in
@@ -230,60 +239,56 @@ turn_low t chunk n =
     omega arith
 
 -- where a table is settled at level 6, and not too many of its rows break, the prefix puts no image on Q
-settled_few : (images : List (List ℕ)) (plan : Plan) (head : Head) (prefix : List (Option ℕ)) (table : RowTable) → IsPrefixOf (length plan.lengths.items) head.members prefix → length plan.lengths.items ≡ head.members → 0 < head.members →
-    IsSettledFor plan head.chunk head.offset table Raid6 → sum_by (beside_q table head prefix) (range_with_len 0 head.members) ≤ plan.limits.badrows →
+settled_few : (images : List (List ℕ)) (plan : Plan) (head : Head) (prefix : List (Option ℕ)) (table : RowTable) → IsPrefixOf (length plan.lengths.items) head.members prefix → length plan.lengths.items ≡ head.members → 0 < head.members → 0 < head.delay →
+    IsSettledFor plan (pace_of head) head.offset table Raid6 → sum_by (beside_q table head prefix) (range_with_len 0 head.members) ≤ plan.limits.badrows →
     count_by (differ_beside_q images plan head prefix) (range_with_len 0 (tested plan head)) ≡ 0
-settled_few images plan head prefix table is count some settled few =
+settled_few images plan head prefix table is count some stays settled few =
     none_counted (differ_beside_q images plan head prefix) 0 (tested plan head)
     (λ t low high.
-    ap (λ (o : Option ℕ). option_map_or (λ i. differ images (others (length plan.lengths.items) i) (head.offset + t)) o false) (on_q_again head prefix (t / head.chunk) some)
-    ∙ at_turn t (omega arith) (on_q head prefix (t / head.chunk % head.members)) refl)
+    ap (λ (o : Option ℕ). option_map_or (λ i. differ images (others (length plan.lengths.items) i) (head.offset + t)) o false) (on_q_again head prefix t some stays)
+    ∙ at_turn t (omega arith) (on_q head prefix (turn_at head t * head.delay)) refl)
   where
-    at_turn : (t : ℕ) → t < tested plan head → (o : Option ℕ) → on_q head prefix (t / head.chunk % head.members) ≡ o →
-        option_map_or (λ i. differ images (others (length plan.lengths.items) i) (head.offset + t)) (on_q head prefix (t / head.chunk % head.members)) false ≡ false
+    at_turn : (t : ℕ) → t < tested plan head → (o : Option ℕ) → on_q head prefix (turn_at head t * head.delay) ≡ o →
+        option_map_or (λ i. differ images (others (length plan.lengths.items) i) (head.offset + t)) (on_q head prefix (turn_at head t * head.delay)) false ≡ false
     at_turn t lt None e = ap (λ (o : Option ℕ). option_map_or (λ i. differ images (others (length plan.lengths.items) i) (head.offset + t)) o false) e
     at_turn t lt (Some i) e =
-        let k : t / head.chunk % head.members < head.members = mod_below (t / head.chunk) head.members some in
-        let below : i < length plan.lengths.items = on_q_below (length plan.lengths.items) head prefix (t / head.chunk % head.members) i is.images e in
-        let early : t / head.chunk % head.members * head.chunk ≤ t = turn_low t head.chunk head.members in
-        let high = settled (t / head.chunk % head.members) i (omega arith) below (omega arith) in
-        let here : beside_q table head prefix (t / head.chunk % head.members) ≡ slice_index (slice_index_or table.beside (t / head.chunk % head.members) []) i
-        = ap (λ (o : Option ℕ). option_map_or (λ j. slice_index (slice_index_or table.beside (t / head.chunk % head.members) []) j) o 0) e in
-        let part : beside_q table head prefix (t / head.chunk % head.members) ≤ total ◌+◌ (beside_q table head prefix) (range_with_len 0 head.members)
-        = one_within (beside_q table head prefix) (t / head.chunk % head.members) 0 head.members (omega arith) (omega arith) in
+        let k : turn_at head t < head.members = mod_below (t / (head.chunk * head.delay)) head.members some in
+        let below : i < length plan.lengths.items = on_q_below (length plan.lengths.items) head prefix (turn_at head t * head.delay) i is.images e in
+        let early : turn_at head t * (head.chunk * head.delay) ≤ t = turn_low t (head.chunk * head.delay) head.members in
+        let high = settled (turn_at head t) i (omega arith) below (omega arith) in
+        let here : beside_q table head prefix (turn_at head t) ≡ slice_index (slice_index_or table.beside (turn_at head t) []) i
+        = ap (λ (o : Option ℕ). option_map_or (λ j. slice_index (slice_index_or table.beside (turn_at head t) []) j) o 0) e in
+        let part : beside_q table head prefix (turn_at head t) ≤ total ◌+◌ (beside_q table head prefix) (range_with_len 0 head.members)
+        = one_within (beside_q table head prefix) (turn_at head t) 0 head.members (omega arith) (omega arith) in
         let whole = total_sum (beside_q table head prefix) (range_with_len 0 head.members) in
         absurd (omega arith)
 
--- one of a list's elements has what all of them have
-pub contained : {X : Type 0} (P : X → Type 0) (xs : List X) (x : X) → All P xs → Contains xs x → P x
-contained P xs x all (k, lt, e) = subst P e (all k x lt)
-
 -- what settles it for the plan's levels
-level_settled : (plan : Plan) (head : Head) (table : RowTable) (level : Level) → head.level ≡ level → Contains plan.bounds.levels.items head.level → IsSettled plan head.chunk head.offset table →
-    IsSettledFor plan head.chunk head.offset table level
+level_settled : (plan : Plan) (head : Head) (table : RowTable) (level : Level) → head.level ≡ level → Contains plan.bounds.levels.items head.level → IsSettled plan (pace_of head) head.offset table →
+    IsSettledFor plan (pace_of head) head.offset table level
 level_settled plan head table level e there settled =
-    subst (λ (l : Level). IsSettledFor plan head.chunk head.offset table l) e
-    (contained (λ (l : Level). IsSettledFor plan head.chunk head.offset table l) plan.bounds.levels.items head.level settled there)
+    subst (λ (l : Level). IsSettledFor plan (pace_of head) head.offset table l) e
+    (contained (λ (l : Level). IsSettledFor plan (pace_of head) head.offset table l) plan.bounds.levels.items head.level settled there)
 
 -- the whole table counts the rows that are broken, up to a number past any limit
 whole_broken : (level : Level) (images : List (List ℕ)) (plan : Plan) (head : Head) (prefix : List (Option ℕ)) (table : RowTable) → IsPlan plan → IsPrefixOf (length plan.lengths.items) head.members prefix →
-    length plan.lengths.items ≡ head.members → 0 < head.members → IsXorTable images plan head.chunk head.offset table →
+    length plan.lengths.items ≡ head.members → 0 < head.members → 0 < head.delay → IsXorTable images plan (pace_of head) head.offset table →
     nat_le (broken_in table level head prefix) plan.limits.badrows ≡ nat_le (broken_rows level images plan head prefix) plan.limits.badrows
 unfolding broken_rows
-whole_broken Raid0 images plan head prefix table is_plan is count some known = refl
-whole_broken Raid5 images plan head prefix table is_plan is count some known = ap (λ (n : ℕ). nat_le n plan.limits.badrows) known.all
-whole_broken Raid6 images plan head prefix table is_plan is count some known =
+whole_broken Raid0 images plan head prefix table is_plan is count some stays known = refl
+whole_broken Raid5 images plan head prefix table is_plan is count some stays known = ap (λ (n : ℕ). nat_le n plan.limits.badrows) known.all
+whole_broken Raid6 images plan head prefix table is_plan is count some stays known =
     let few = is_plan.limits.badrows in
     past (sum_by (beside_q table head prefix) (range_with_len 0 head.members)) plan.limits.badrows (omega arith)
-    ∙ ap (λ (n : ℕ). nat_le n plan.limits.badrows) (sum_rows images plan head prefix table is count some (tested plan head) known)
+    ∙ ap (λ (n : ℕ). nat_le n plan.limits.badrows) (sum_rows images plan head prefix table is count some stays (tested plan head) known)
 
 -- an early one tells as much
 early_broken : (level : Level) (images : List (List ℕ)) (plan : Plan) (head : Head) (prefix : List (Option ℕ)) (table : RowTable) → IsPlan plan → IsPrefixOf (length plan.lengths.items) head.members prefix →
-    length plan.lengths.items ≡ head.members → 0 < head.members → head.level ≡ level → Contains plan.bounds.levels.items head.level → IsEarlyTable images plan head.chunk head.offset table →
+    length plan.lengths.items ≡ head.members → 0 < head.members → 0 < head.delay → head.level ≡ level → Contains plan.bounds.levels.items head.level → IsEarlyTable images plan (pace_of head) head.offset table →
     nat_le (broken_in table level head prefix) plan.limits.badrows ≡ nat_le (broken_rows level images plan head prefix) plan.limits.badrows
 unfolding broken_rows
-early_broken Raid0 images plan head prefix table is_plan is count some e there known = refl
-early_broken Raid5 images plan head prefix table is_plan is count some e there known =
+early_broken Raid0 images plan head prefix table is_plan is count some stays e there known = refl
+early_broken Raid5 images plan head prefix table is_plan is count some stays e there known =
     both_few table.all (count_by (differ_in_row images plan head) (range_with_len 0 (tested plan head))) plan.limits.badrows
     (let within : known.rows ≤ tested plan head = known.within in
     let counts = known.counts.all in
@@ -296,9 +301,9 @@ early_broken Raid5 images plan head prefix table is_plan is count some e there k
           omega arith)
       | inr settled ↦ (let high : plan.limits.badrows < table.all = level_settled plan head table Raid5 e there settled in absurd (omega arith))
     ])
-early_broken Raid6 images plan head prefix table is_plan is count some e there known =
+early_broken Raid6 images plan head prefix table is_plan is count some stays e there known =
     let few = is_plan.limits.badrows in
-    let sums = sum_rows images plan head prefix table is count some known.rows known.counts in
+    let sums = sum_rows images plan head prefix table is count some stays known.rows known.counts in
     past (sum_by (beside_q table head prefix) (range_with_len 0 head.members)) plan.limits.badrows (omega arith)
     ∙ both_few (sum_by (beside_q table head prefix) (range_with_len 0 head.members)) (count_by (differ_beside_q images plan head prefix) (range_with_len 0 (tested plan head))) plan.limits.badrows
     (let within : known.rows ≤ tested plan head = known.within in
@@ -308,34 +313,34 @@ early_broken Raid6 images plan head prefix table is_plan is count some e there k
       | inl all ↦ (let same : count_by (differ_beside_q images plan head prefix) (range_with_len 0 known.rows) ≡ count_by (differ_beside_q images plan head prefix) (range_with_len 0 (tested plan head))
           = ap (λ (n : ℕ). count_by (differ_beside_q images plan head prefix) (range_with_len 0 n)) all in
           omega arith)
-      | inr settled ↦ (let none = settled_few images plan head prefix table is count some (level_settled plan head table Raid6 e there settled) low in omega arith)
+      | inr settled ↦ (let none = settled_few images plan head prefix table is count some stays (level_settled plan head table Raid6 e there settled) low in omega arith)
     ])
 
--- where a table is asked, there are as many images as members, and some
-asked_members : (plan : Plan) (head : Head) → IsTrue (is_valid_head head) → needs_table plan head ≡ true → (holds_every plan head ≡ true) × (length plan.lengths.items ≡ head.members) × (0 < head.members)
+-- where a table is asked, there are as many images as members, and some, and parity stays for a row at least
+asked_members : (plan : Plan) (head : Head) → IsTrue (is_valid_head head) → needs_table plan head ≡ true → (holds_every plan head ≡ true) × (length plan.lengths.items ≡ head.members) × (0 < head.members) × (0 < head.delay)
 asked_members plan head valid needs =
     let parts = and_parts (holds_every plan head) (nat_le 1 (redundancy head.level)) needs in
     let both = and_parts (length plan.lengths.items == head.members) ((plan.bounds.foreign == 0) || (min plan.bounds.missing (redundancy head.level) == 0)) parts.0 in
     let low : fewest head.level ≤ head.members = enough head valid in
-    (parts.0, eqb-true (length plan.lengths.items) head.members both.0, (omega arith))
+    (parts.0, eqb-true (length plan.lengths.items) head.members both.0, (omega arith), some_delay head valid)
 
 -- the answer where a table is asked, by the whole one and by an early one, and where none is
 pub rows_known : (images : List (List ℕ)) (plan : Plan) (head : Head) (prefix : List (Option ℕ)) (table : RowTable) → IsTrue (is_valid_head head) → IsPlan plan → IsPrefixOf (length plan.lengths.items) head.members prefix →
-    needs_table plan head ≡ true → IsXorTable images plan head.chunk head.offset table →
+    needs_table plan head ≡ true → IsXorTable images plan (pace_of head) head.offset table →
     nat_le (broken_in table head.level head prefix) plan.limits.badrows ≡ rows_may_hold images plan head prefix
 unfolding rows_may_hold
 rows_known images plan head prefix table valid is_plan is needs known =
     let asked = asked_members plan head valid needs in
-    whole_broken head.level images plan head prefix table is_plan is asked.1 asked.2 known
+    whole_broken head.level images plan head prefix table is_plan is asked.1 asked.2 asked.3 known
     ∙ sym (not_of (holds_every plan head) (nat_le (broken_rows head.level images plan head prefix) plan.limits.badrows) asked.0)
 
 pub early_known : (images : List (List ℕ)) (plan : Plan) (head : Head) (prefix : List (Option ℕ)) (table : RowTable) → IsTrue (is_valid_head head) → IsPlan plan → IsPrefixOf (length plan.lengths.items) head.members prefix →
-    needs_table plan head ≡ true → Contains plan.bounds.levels.items head.level → IsEarlyTable images plan head.chunk head.offset table →
+    needs_table plan head ≡ true → Contains plan.bounds.levels.items head.level → IsEarlyTable images plan (pace_of head) head.offset table →
     nat_le (broken_in table head.level head prefix) plan.limits.badrows ≡ rows_may_hold images plan head prefix
 unfolding rows_may_hold
 early_known images plan head prefix table valid is_plan is needs there known =
     let asked = asked_members plan head valid needs in
-    early_broken head.level images plan head prefix table is_plan is asked.1 asked.2 refl there known
+    early_broken head.level images plan head prefix table is_plan is asked.1 asked.2 asked.3 refl there known
     ∙ sym (not_of (holds_every plan head) (nat_le (broken_rows head.level images plan head prefix) plan.limits.badrows) asked.0)
 
 no_rows : (level : Level) (images : List (List ℕ)) (plan : Plan) (head : Head) (prefix : List (Option ℕ)) → nat_le 1 (redundancy level) ≡ false → broken_rows level images plan head prefix ≡ 0

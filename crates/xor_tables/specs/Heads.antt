@@ -13,7 +13,7 @@ use Rattle.search_plan.specs.Plans.{IsPlan}
 use Rattle.search_plan.specs.declared.plan.Plan.{Plan}
 use Rattle.xor_tables.specs.Xors.{rows_hold_by, RowTable}
 
--- whose rows they are: a plan, a head, and the table of the head's chunk and offset, where it needs one
+-- whose rows they are: a plan, a head, and the table of the head's pace and offset, where it needs one
 pub record HeadTable : Type 0 where
   pub plan : Plan
   pub head : Head

@@ -1,3 +1,4 @@
+pub mod Paces
 pub mod Rows
 pub mod Xors
 pub mod Early

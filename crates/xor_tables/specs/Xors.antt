@@ -11,35 +11,37 @@ use Rattle.member_regions.specs.Regions.{Room}
 use Rattle.member_regions.specs.declared.image_sums.ImageSum.{ImageSum}
 use Rattle.search_plan.specs.Rows.{tested_with}
 use Rattle.search_plan.specs.declared.plan.Plan.{Plan}
+use Rattle.xor_tables.specs.Paces.{pace_of, span}
 use Rattle.xor_tables.specs.Rows.{differ, every, needs_table, on_q, others}
+use Rattle.xor_tables.specs.declared.pace.Pace.{Pace}
 
 -- a table as contracts see it: in how many of some rows the images differ, and in how many those but one do, by the
--- row's place among as many rows of chunks as there are images, and by the one
+-- row's turn among as many turns as there are images, and by the one
 pub record RowTable : Type 0 where
   pub all : ℕ
   pub beside : List (List ℕ)
 
--- the table counts the first rows of sectors, from an offset on
-pub record CountRows (images : List (List ℕ)) (count chunk offset rows : ℕ) (table : RowTable) : Type 0 where
+-- the table counts the first rows of sectors, from an offset on, where a turn has `span` of them
+pub record CountRows (images : List (List ℕ)) (count span offset rows : ℕ) (table : RowTable) : Type 0 where
   pub all : table.all ≡ count_by (λ t. differ images (every count) (offset + t)) (range_with_len 0 rows)
   pub beside : (k i : ℕ) → k < count → i < count →
-      slice_index (slice_index_or table.beside k []) i ≡ count_by (λ t. (t / chunk % count == k) && differ images (others count i) (offset + t)) (range_with_len 0 rows)
+      slice_index (slice_index_or table.beside k []) i ≡ count_by (λ t. (t / span % count == k) && differ images (others count i) (offset + t)) (range_with_len 0 rows)
 
 -- the most rows that a plan tests with an offset and one of some chunks
 unfoldable pub most_tested : Plan → List ℕ → ℕ → ℕ
 most_tested plan chunks offset = fold (λ most chunk. max most (tested_with plan chunk offset)) 0 chunks
 
--- the whole table of a plan, a chunk and an offset, over the bytes of the images: it counts all rows that are tested
-abbrev pub IsXorTable : List (List ℕ) → Plan → ℕ → ℕ → RowTable → Type 0
-IsXorTable images plan chunk offset table = CountRows images (length plan.lengths.items) chunk offset (tested_with plan chunk offset) table
+-- the whole table of a plan, a pace and an offset, over the bytes of the images: it counts all rows that are tested
+abbrev pub IsXorTable : List (List ℕ) → Plan → Pace → ℕ → RowTable → Type 0
+IsXorTable images plan pace offset table = CountRows images (length plan.lengths.items) (span pace) offset (tested_with plan pace.chunk offset) table
 
 -- there is such a table where a head needs one
 abbrev pub HasXorTable : List (List ℕ) → Plan → Head → Option RowTable → Type 0
-HasXorTable images plan head xors = needs_table plan head ≡ true → IsSomeAnd xors (λ table. IsXorTable images plan head.chunk head.offset table)
+HasXorTable images plan head xors = needs_table plan head ≡ true → IsSomeAnd xors (λ table. IsXorTable images plan (pace_of head) head.offset table)
 
--- what the table says of the row of chunks `turn`, for the image that a prefix puts on Q
+-- what the table says of a turn, for the image that a prefix puts on Q in the first row of it
 abbrev pub beside_q : RowTable → Head → List (Option ℕ) → ℕ → ℕ
-beside_q table head prefix turn = option_map_or (λ i. slice_index (slice_index_or table.beside turn []) i) (on_q head prefix turn) 0
+beside_q table head prefix turn = option_map_or (λ i. slice_index (slice_index_or table.beside turn []) i) (on_q head prefix (turn * head.delay)) 0
 
 -- and of the rows that are broken in all, up to the largest number of 64 bits at level 6
 abbrev pub broken_in : RowTable → Level → Head → List (Option ℕ) → ℕ

@@ -12,7 +12,7 @@ ghost use Rattle.xor_tables.specs.Xors.{beside_q, broken_in};
 
 use crate::early_table::EarlyTable;
 use crate::row_counts::RowCounts;
-use crate::row_tally::RowTally;
+use crate::row_tally::{RowTally, first_row};
 use crate::rows::needs_table;
 use raid_layouts::q_slot;
 use raid_params::{Head, Level, MOST};
@@ -27,7 +27,7 @@ pub(crate) struct Broken {
     pub(crate) placed: [RowCounts; MOST],
 }
 
-/// How many rows break for a head, by the table of its chunk and offset, where it needs one.
+/// How many rows break for a head, by the table of its pace and offset, where it needs one.
 pub(crate) fn broken_rows(plan: &Plan, head: &Head, table: Option<&EarlyTable>) -> Broken
     requires plan { IsPlan plan.now }
     requires head { IsTrue (is_valid_head head.now) }
@@ -139,7 +139,7 @@ impl RowTally {
     {
         let mut placed = nowhere();
         for turn in 0..head.members {
-            if let Some(slot) = q_slot(head, u64::from(turn)) {
+            if let Some(slot) = q_slot(head, first_row(head, turn)) {
                 let slot = slot as usize;
                 placed[slot] = sums_of(&placed[slot], &self.beside[turn as usize]);
             }

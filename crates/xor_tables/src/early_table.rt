@@ -1,20 +1,21 @@
-//! The tables of rows of all chunks of an offset, made in one reading that may end early.
-ghost use Rattle.std.specs.Prelude.{◌≡◌, ◌+◌, ◌*◌, ◌<◌, ◌≤◌, ◌^◌, ℕ, List, All, IfErr, IfOk, IfSome, IsTrue, OnOk, length, min};
+//! The tables of rows of all chunks and delays of an offset, made in one reading that may end early.
+ghost use Rattle.std.specs.Prelude.{◌≡◌, ◌+◌, ◌*◌, ◌<◌, ◌≤◌, ◌^◌, ℕ, List, All, IfErr, IfOk, IfSome, OnOk, length, min};
 ghost use Rattle.outside.specs.Attached.{told_all};
 ghost use Rattle.outside.specs.Causes.{HasCause};
 ghost use Rattle.outside.specs.Seen.{OnlyReads};
-ghost use Rattle.raid_params.specs.Validity.{is_chunk};
 ghost use Rattle.row_samples.specs.Spreads.{AreSampled, HasNone};
 ghost use Rattle.member_regions.specs.Regions.{IsRoomFor};
 ghost use Rattle.member_regions.specs.declared.regions.TheConstants.{BLOCK};
 ghost use Rattle.search_plan.specs.Plans.{IsPlan, AgreeWith};
 ghost use Rattle.xor_tables.specs.Early.{AreAllFew, AreEarlyTables, CountFirst};
+ghost use Rattle.xor_tables.specs.Paces.{paces_of as paces_of_plan, span, IsPace, IsPaceOf};
 ghost use Rattle.xor_tables.specs.Reading.{EndsTable};
 ghost use Rattle.xor_tables.specs.Xors.{most_tested, AreFew, AreSumsOf, CountRows};
 ghost use Rattle.search_plan.specs.Rows.{tested_with};
 ghost use Rattle.xor_tables.specs.declared.xor_table.TableFault.TheVariants.{Memory};
 
 use crate::most_tested::most_rows;
+use crate::pace::{Pace, paces_of};
 use crate::row_sums::row_sums;
 use crate::row_tally::RowTally;
 use crate::sampling::offer_rows;
@@ -30,8 +31,8 @@ use std::marker::Model;
 /// The sectors of each image that are read first: where images do not belong together, the first rows show it.
 const FIRST_BLOCK: usize = 8;
 
-/// In how many rows of sectors the images of a plan differ, for one chunk and one offset: of all rows that are
-/// tested, or of as many of the first of them as settle what the others could tell of the plan's levels.
+/// In how many rows of sectors the images of a plan differ, for one chunk, one delay and one offset: of all rows that
+/// are tested, or of as many of the first of them as settle what the others could tell of the plan's levels.
 ///
 /// Contracts see it as a `RowTable`.
 #[derive(Drop)]
@@ -49,46 +50,45 @@ impl Model for EarlyTable {
 }
 
 impl EarlyTable {
-    /// Counts the rows of an offset in which the images of a plan differ, for each of some chunks. Each image is
-    /// read at most once, in the order of its sectors, and memory is taken before the first reading. The reading ends
-    /// where each table counts all rows that are tested, or settles what the others could tell: of a level of the
+    /// Counts the rows of an offset in which the images of a plan differ, for each delay of each chunk of the plan. Each
+    /// image is read at most once, in the order of its sectors, and memory is taken before the first reading. The reading
+    /// ends where each table counts all rows that are tested, or settles what the others could tell: of a level of the
     /// plan, that more rows are broken than may be. The rows that are read are offered to a sampler. `ReadFault` comes only where the
     /// images failed.
     pub fn build_each<I: Images>(
         alloc: Global,
         images: &mut I,
         plan: &Plan,
-        chunks: &[u64],
         offset: u64,
         sampler: &mut RowSampler,
     ) -> Result<Vec<EarlyTable>, TableFault>
         requires plan { IsPlan plan.now }
-        requires chunks { All (λ chunk. IsTrue (is_chunk chunk)) chunks.now }
         requires offset { offset < 2 ^ 55 }
         requires images { AgreeWith plan.now (I.seen images.old).attached }
         requires none { HasNone (length plan.now.lengths.items) sampler.old }
-        ensures long { IfOk result (λ tables. length tables.items ≡ length chunks.now) }
+        ensures long { IfOk result (λ tables. length tables.items ≡ length (paces_of_plan plan.now)) }
         ensures told { IfOk result (λ tables. IfSome (told_all (I.seen images.old).attached)
-            (λ bytes. AreEarlyTables bytes plan.now chunks.now offset tables.items)) }
+            (λ bytes. AreEarlyTables bytes plan.now (paces_of_plan plan.now) offset tables.items)) }
         ensures telling_images { sampler.new.telling.kept.images ≡ length plan.now.lengths.items }
         ensures others_images { sampler.new.others.kept.images ≡ length plan.now.lengths.items }
         ensures rows { OnOk result (IfSome (told_all (I.seen images.old).attached) (λ bytes. AreSampled bytes (length plan.now.lengths.items) offset sampler.new)) }
         ensures reads { OnlyReads (I.seen images.old) (I.seen images.new)
-            (length plan.now.lengths.items * most_tested plan.now chunks.now offset) }
+            (length plan.now.lengths.items * most_tested plan.now plan.now.bounds.chunks.items offset) }
         ensures ends { IfErr result (EndsTable (I.seen images.old) (I.seen images.new)) }
         ensures stays { OnOk result ((I.seen images.new).faults ≡ (I.seen images.old).faults) }
     {
         let mut regions = Regions::new(alloc, plan.lengths.len(), BLOCK).map_err(
             |_| TableFault::Memory,
         )?;
-        let mut tables = no_rows(alloc, chunks.len())?;
+        let paces = paces_of(alloc, plan)?;
+        let mut tables = no_rows(alloc, paces.len())?;
         read_rows(
             images,
             &mut regions,
             &mut tables,
             sampler,
             plan,
-            chunks,
+            &paces,
             offset,
         )
         .map_err(|_| TableFault::ReadFault)?;
@@ -100,27 +100,27 @@ impl EarlyTable {
         &mut self,
         sums: &[ImageSum; BLOCK],
         plan: &Plan,
-        chunk: u64,
+        pace: Pace,
         offset: u64,
         first: u64,
         count: usize,
     )
         requires plan { IsPlan plan.now }
-        requires chunk { IsTrue (is_chunk chunk) }
+        requires pace { IsPace pace }
         requires count { count ≤ BLOCK }
         requires rows { first + count < 2 ^ 55 }
         requires few { AreFew first self.old }
         ensures counts { (bytes : List (List ℕ)) →
             AreSumsOf bytes (length plan.now.lengths.items) (offset + first) count sums.now →
-            CountRows bytes (length plan.now.lengths.items) chunk offset (min first (tested_with plan.now chunk offset)) self.old →
-            CountRows bytes (length plan.now.lengths.items) chunk offset (min (first + count) (tested_with plan.now chunk offset)) self.new }
+            CountRows bytes (length plan.now.lengths.items) (span pace) offset (min first (tested_with plan.now pace.chunk offset)) self.old →
+            CountRows bytes (length plan.now.lengths.items) (span pace) offset (min (first + count) (tested_with plan.now pace.chunk offset)) self.new }
         ensures few { AreFew (first + count) self.new }
     {
-        let tested = tested_rows(plan, chunk, offset);
+        let tested = tested_rows(plan, pace.chunk, offset);
         if first < tested {
             let rows = (tested - first).min(count as u64) as usize;
             self.rows
-                .add_rows(sums, plan.lengths.len(), chunk, first, rows);
+                .add_rows(sums, plan.lengths.len(), pace.span(), first, rows);
         }
     }
 }
@@ -128,8 +128,8 @@ impl EarlyTable {
 /// `count` tables of no rows.
 fn no_rows(alloc: Global, count: usize) -> Result<Vec<EarlyTable>, TableFault>
     ensures long { IfOk result (λ tables. length tables.items ≡ count) }
-    ensures counts { IfOk result (λ tables. (images : List (List ℕ)) (members chunk offset : ℕ) →
-        All (CountRows images members chunk offset 0) tables.items) }
+    ensures counts { IfOk result (λ tables. (images : List (List ℕ)) (members span offset : ℕ) →
+        All (CountRows images members span offset 0) tables.items) }
     ensures few { IfOk result (λ tables. AreAllFew 0 tables.items) }
     ensures memory { IfErr result (λ fault. fault ≡ Memory) }
 {
@@ -143,74 +143,75 @@ fn no_rows(alloc: Global, count: usize) -> Result<Vec<EarlyTable>, TableFault>
     Ok(tables)
 }
 
-/// Counts the rows of an offset for each of some chunks, with room for a block of each image, and offers them to a sampler.
+/// Counts the rows of an offset for each of some paces of the plan, with room for a block of each image, and offers them
+/// to a sampler.
 fn read_rows<I: Images>(
     images: &mut I,
     regions: &mut Regions,
     tables: &mut Vec<EarlyTable>,
     sampler: &mut RowSampler,
     plan: &Plan,
-    chunks: &[u64],
+    paces: &[Pace],
     offset: u64,
 ) -> Result<(), Failed>
     requires plan { IsPlan plan.now }
-    requires chunks { All (λ chunk. IsTrue (is_chunk chunk)) chunks.now }
+    requires paces { All (IsPaceOf plan.now) paces.now }
     requires offset { offset < 2 ^ 55 }
     requires images { AgreeWith plan.now (I.seen images.old).attached }
     requires room { IsRoomFor (length plan.now.lengths.items) BLOCK regions.old }
-    requires tables { length tables.old.items ≡ length chunks.now }
-    requires none { (bytes : List (List ℕ)) (members chunk offset : ℕ) →
-        All (CountRows bytes members chunk offset 0) tables.old.items }
+    requires tables { length tables.old.items ≡ length paces.now }
+    requires none { (bytes : List (List ℕ)) (members span offset : ℕ) →
+        All (CountRows bytes members span offset 0) tables.old.items }
     requires few { AreAllFew 0 tables.old.items }
     requires none_kept { HasNone (length plan.now.lengths.items) sampler.old }
-    ensures long { length tables.new.items ≡ length chunks.now }
+    ensures long { length tables.new.items ≡ length paces.now }
     ensures told { OnOk result (IfSome (told_all (I.seen images.old).attached)
-        (λ bytes. AreEarlyTables bytes plan.now chunks.now offset tables.new.items)) }
+        (λ bytes. AreEarlyTables bytes plan.now paces.now offset tables.new.items)) }
     ensures telling_images { sampler.new.telling.kept.images ≡ length plan.now.lengths.items }
     ensures others_images { sampler.new.others.kept.images ≡ length plan.now.lengths.items }
     ensures rows { OnOk result (IfSome (told_all (I.seen images.old).attached) (λ bytes. AreSampled bytes (length plan.now.lengths.items) offset sampler.new)) }
     ensures reads { OnlyReads (I.seen images.old) (I.seen images.new)
-        (length plan.now.lengths.items * most_tested plan.now chunks.now offset) }
+        (length plan.now.lengths.items * most_tested plan.now plan.now.bounds.chunks.items offset) }
     ensures cause { HasCause (I.seen images.old).faults (I.seen images.new).faults result }
 {
-    let rows = most_rows(plan, chunks, offset);
+    let rows = most_rows(plan, plan.bounds.chunks.as_slice(), offset);
     let mut first = 0;
     while first < rows {
-        if tables_suffice(tables, plan, chunks, offset, first) {
+        if tables_suffice(tables, plan, paces, offset, first) {
             return Ok(());
         }
         let most = first.clamp(FIRST_BLOCK as u64, BLOCK as u64);
         let count = most.min(rows - first) as usize;
         let sums = row_sums(images, regions, plan, offset + first, count)?;
-        add_block(tables, &sums, plan, chunks, offset, first, count);
+        add_block(tables, &sums, plan, paces, offset, first, count);
         offer_rows(sampler, regions, &sums, first, count);
         first += count as u64;
     }
     Ok(())
 }
 
-/// Counts the rows of a block, of which the first is row `first`, for each of some chunks.
+/// Counts the rows of a block, of which the first is row `first`, for each of some paces.
 fn add_block(
     tables: &mut Vec<EarlyTable>,
     sums: &[ImageSum; BLOCK],
     plan: &Plan,
-    chunks: &[u64],
+    paces: &[Pace],
     offset: u64,
     first: u64,
     count: usize,
 )
     requires plan { IsPlan plan.now }
-    requires chunks { All (λ chunk. IsTrue (is_chunk chunk)) chunks.now }
+    requires paces { All IsPace paces.now }
     requires count { count ≤ BLOCK }
     requires rows { first + count < 2 ^ 55 }
-    requires tables { length tables.old.items ≡ length chunks.now }
+    requires tables { length tables.old.items ≡ length paces.now }
     requires few { AreAllFew first tables.old.items }
     ensures counts { (bytes : List (List ℕ)) → AreSumsOf bytes (length plan.now.lengths.items) (offset + first) count sums.now →
-        CountFirst bytes plan.now chunks.now offset first tables.old.items → CountFirst bytes plan.now chunks.now offset (first + count) tables.new.items }
+        CountFirst bytes plan.now paces.now offset first tables.old.items → CountFirst bytes plan.now paces.now offset (first + count) tables.new.items }
     ensures few { AreAllFew (first + count) tables.new.items }
     ensures long { length tables.new.items ≡ length tables.old.items }
 {
-    for place in 0..chunks.len() {
-        tables[place].add_tested(sums, plan, chunks[place], offset, first, count);
+    for place in 0..paces.len() {
+        tables[place].add_tested(sums, plan, paces[place], offset, first, count);
     }
 }

@@ -45,7 +45,7 @@ impl<'a> Model for HeadRows<'a> {
 }
 
 impl<'a> HeadRows<'a> {
-    /// Those of a head of a plan, by the table of the head's chunk and offset, where it needs one.
+    /// Those of a head of a plan, by the table of the head's pace and offset, where it needs one.
     pub fn new(plan: &'a Plan, head: &Head, table: Option<&'a EarlyTable>) -> HeadRows<'a>
         requires plan { IsPlan plan.now }
         requires head { IsTrue (is_valid_head head.now) }

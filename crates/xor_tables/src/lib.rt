@@ -5,15 +5,16 @@
 //! puts this image on Q. [`needs_table`] says of which heads that is asked, and [`rows_decide`] for which it answers
 //! the parity test of each set.
 //!
-//! An [`XorTable`] counts all tested rows of a chunk and an offset. An [`EarlyTable`] is made together with those of
-//! other chunks of its offset in one reading, which ends where further rows could tell nothing more of the levels of
-//! the plan. By them tell [`rows_may_hold`] and, for the prefixes of one head, [`HeadRows`] of a prefix whether more rows
+//! An [`XorTable`] counts all tested rows of a chunk and an offset, by the turns of a delay: a [`Pace`] says how long Q
+//! stays on a slot. An [`EarlyTable`] is made together with those of other paces of its offset in one reading, which ends
+//! where further rows could tell nothing more of the levels of the plan. By them tell [`rows_may_hold`] and, for the prefixes of one head, [`HeadRows`] of a prefix whether more rows
 //! are known to be unsound than may be.
 //!
 //! The rows that are read for such tables are offered to a sampler (`row_samples`), so that none is read for it alone. [`needs_samples`]
 //! says of which heads rows are asked.
 //!
-//! What is known of a prefix stands in `specs/Rows`, and what the tables hold in `specs/Xors`, `specs/Early` and `specs/Heads`.
+//! What is known of a prefix stands in `specs/Rows`, and what the tables hold in `specs/Xors`, `specs/Early` and `specs/Heads`, and
+//! what paces there are in `specs/Paces`.
 //! `prune_filters` asks it beside what the marks refuse.
 #![tactic(auto)]
 
@@ -21,6 +22,7 @@ mod breaks;
 mod early_table;
 mod head_rows;
 mod most_tested;
+mod pace;
 mod row_counts;
 mod row_sums;
 mod row_tally;
@@ -32,5 +34,6 @@ mod xor_table;
 pub use early_table::EarlyTable;
 pub use head_rows::HeadRows;
 pub use most_tested::most_rows;
+pub use pace::Pace;
 pub use rows::{needs_samples, needs_table, rows_decide, rows_may_hold};
 pub use xor_table::{TableFault, XorTable};

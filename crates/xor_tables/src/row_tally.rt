@@ -1,5 +1,5 @@
 //! In how many of some rows of sectors the images differ.
-ghost use Rattle.std.specs.Prelude.{◌≡◌, ◌+◌, ◌-◌, ◌<◌, ◌≤◌, ◌^◌, ℕ, List, IsTrue, min};
+ghost use Rattle.std.specs.Prelude.{◌≡◌, ◌+◌, ◌-◌, ◌*◌, ◌<◌, ◌≤◌, ◌^◌, ℕ, List, IsTrue, min};
 ghost use Rattle.std.specs.List.{range_with_len, sum_by};
 ghost use Rattle.raid_params.specs.Validity.{is_valid_head};
 ghost use Rattle.raid_params.specs.declared.limits.TheConstants.{MOST};
@@ -21,8 +21,8 @@ use std::marker::Model;
 pub(crate) struct RowTally {
     /// The rows in which the exclusive or of all images is not zero.
     pub(crate) all: u64,
-    /// Those in which that of all images but one is not, by the row's place among as many rows of chunks as there
-    /// are images, and by the one.
+    /// Those in which that of all images but one is not, by the row's turn among as many turns as there are images,
+    /// and by the one.
     pub(crate) beside: [RowCounts; MOST],
 }
 
@@ -41,7 +41,7 @@ impl Model for RowTally {
 impl RowTally {
     /// The tally of no rows.
     pub(crate) fn new() -> RowTally
-        ensures counts { (images : List (List ℕ)) (count chunk offset : ℕ) → CountRows images count chunk offset 0 result }
+        ensures counts { (images : List (List ℕ)) (count span offset : ℕ) → CountRows images count span offset 0 result }
         ensures few { AreFew 0 result }
     {
         RowTally {
@@ -50,42 +50,42 @@ impl RowTally {
         }
     }
 
-    /// Counts the first `rows` of some rows, of which the first is row `first`.
+    /// Counts the first `rows` of some rows, of which the first is row `first`, where a turn has `span` rows.
     pub(crate) fn add_rows(
         &mut self,
         sums: &[ImageSum; BLOCK],
         images: usize,
-        chunk: u64,
+        span: u64,
         first: u64,
         rows: usize,
     )
         requires some { 0 < images }
         requires images { images ≤ MOST }
-        requires chunk { 0 < chunk }
+        requires span { 0 < span }
         requires count { rows ≤ BLOCK }
         requires rows { first + rows < 2 ^ 55 }
         requires few { AreFew first self.old }
         ensures counts { (bytes : List (List ℕ)) (offset : ℕ) → AreSumsOf bytes images (offset + first) rows sums.now →
-            CountRows bytes images chunk offset first self.old → CountRows bytes images chunk offset (first + rows) self.new }
+            CountRows bytes images span offset first self.old → CountRows bytes images span offset (first + rows) self.new }
         ensures few { AreFew (first + rows) self.new }
     {
         for j in 0..rows {
-            self.add_row(&sums[j], images, chunk, first + j as u64);
+            self.add_row(&sums[j], images, span, first + j as u64);
         }
     }
 
     /// Counts row `t`, of which this is the sum.
-    fn add_row(&mut self, sum: &ImageSum, images: usize, chunk: u64, t: u64)
+    fn add_row(&mut self, sum: &ImageSum, images: usize, span: u64, t: u64)
         requires some { 0 < images }
         requires images { images ≤ MOST }
-        requires chunk { 0 < chunk }
+        requires span { 0 < span }
         requires row { t < 2 ^ 55 }
         requires few { AreFew t self.old }
         ensures counts { (bytes : List (List ℕ)) (offset : ℕ) → IsSumOf bytes images (offset + t) sum.now →
-            CountRows bytes images chunk offset t self.old → CountRows bytes images chunk offset (t + 1) self.new }
+            CountRows bytes images span offset t self.old → CountRows bytes images span offset (t + 1) self.new }
         ensures few { AreFew (t + 1) self.new }
     {
-        let turn = (t / chunk) as usize % images;
+        let turn = (t / span) as usize % images;
         self.all += one_if(!sum.is_zero);
         self.beside[turn] = count_row(&self.beside[turn], sum, images);
     }
@@ -119,26 +119,35 @@ impl RowTally {
         sum
     }
 
-    /// The rows of which that is so among the rows of chunks `turn`, counted round the members.
+    /// The rows of which that is so among those of a turn, counted round the members.
     fn beside_q(&self, head: &Head, prefix: &[Option<u8>], turn: u8) -> u64
         requires head { IsTrue (is_valid_head head.now) }
         requires images { AllImages MOST prefix.now }
         requires turn { turn < head.now.members }
         ensures { result ≡ beside_q_of self.now head.now prefix.now turn }
     {
-        match on_q(head, prefix, turn) {
+        match on_q(head, prefix, first_row(head, turn)) {
             Some(image) => self.beside[turn as usize][image as usize],
             None => 0,
         }
     }
 }
 
+/// The first row of chunks of a turn.
+#[tactic(auto, using(crate::proofs::Paces::short_delay))]
+pub(crate) fn first_row(head: &Head, turn: u8) -> u64
+    requires { IsTrue (is_valid_head head.now) }
+    ensures { result ≡ turn * head.now.delay }
+{
+    u64::from(turn) * head.delay
+}
+
 /// The image that the prefix puts on Q in a row of chunks, if it puts one there.
-fn on_q(head: &Head, prefix: &[Option<u8>], row: u8) -> Option<u8>
+fn on_q(head: &Head, prefix: &[Option<u8>], row: u64) -> Option<u8>
     requires head { IsTrue (is_valid_head head.now) }
     ensures { result ≡ image_on_q head.now prefix.now row }
 {
-    let slot = q_slot(head, u64::from(row))? as usize;
+    let slot = q_slot(head, row)? as usize;
     if slot < prefix.len() {
         prefix[slot]
     } else {

@@ -45,7 +45,7 @@ fn holds_every(plan: &Plan, head: &Head) -> bool
 }
 
 /// Whether no more of the tested rows are known to break the equation of P, if the slots begin with a prefix, than
-/// may be. The table is that of the head's chunk and offset; it is looked at only where the head needs one.
+/// may be. The table is that of the head's pace and offset; it is looked at only where the head needs one.
 pub fn rows_may_hold(
     xors: Option<&XorTable>,
     plan: &Plan,

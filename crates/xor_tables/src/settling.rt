@@ -1,12 +1,13 @@
 //! When a table settles what further rows could tell.
-ghost use Rattle.std.specs.Prelude.{◌≡◌, ◌*◌, ◌<◌, ◌≤◌, ◌⊎◌, ℕ, All, IsTrue, length, slice_index, slice_index_or, [], true};
-ghost use Rattle.raid_params.specs.Validity.{is_chunk};
-ghost use Rattle.raid_params.specs.declared.limits.TheConstants.{LARGEST_CHUNK, MOST};
+ghost use Rattle.std.specs.Prelude.{◌≡◌, ◌*◌, ◌^◌, ◌<◌, ◌≤◌, ◌⊎◌, ℕ, All, length, slice_index, slice_index_or, [], true};
+ghost use Rattle.raid_params.specs.declared.limits.TheConstants.{MOST};
 ghost use Rattle.search_plan.specs.Plans.{IsPlan};
 ghost use Rattle.xor_tables.specs.Early.{AreKnown, IsSettled, IsSettledFor};
+ghost use Rattle.xor_tables.specs.Paces.{IsPace};
 ghost use Rattle.search_plan.specs.Rows.{tested_with};
 
 use crate::early_table::EarlyTable;
+use crate::pace::Pace;
 use crate::row_counts::RowCounts;
 use crate::row_tally::RowTally;
 use raid_params::{Level, MOST};
@@ -16,18 +17,18 @@ use search_plan::{Plan, tested_rows};
 pub(crate) fn tables_suffice(
     tables: &[EarlyTable],
     plan: &Plan,
-    chunks: &[u64],
+    paces: &[Pace],
     offset: u64,
     first: u64,
 ) -> bool
     requires plan { IsPlan plan.now }
-    requires chunks { All (λ chunk. IsTrue (is_chunk chunk)) chunks.now }
-    requires tables { length tables.now ≡ length chunks.now }
-    ensures { result ≡ true → AreKnown plan.now chunks.now offset first tables.now }
+    requires paces { All IsPace paces.now }
+    requires tables { length tables.now ≡ length paces.now }
+    ensures { result ≡ true → AreKnown plan.now paces.now offset first tables.now }
 {
-    for place in 0..chunks.len() {
+    for place in 0..paces.len() {
         let table = &tables[place];
-        if !table.rows.suffices(plan, chunks[place], offset, first) {
+        if !table.rows.suffices(plan, paces[place], offset, first) {
             return false;
         }
     }
@@ -36,27 +37,27 @@ pub(crate) fn tables_suffice(
 
 impl RowTally {
     /// Whether the tally, with the rows before row `first`, counts all that are tested or is settled.
-    fn suffices(&self, plan: &Plan, chunk: u64, offset: u64, first: u64) -> bool
+    fn suffices(&self, plan: &Plan, pace: Pace, offset: u64, first: u64) -> bool
         requires plan { IsPlan plan.now }
-        requires chunk { IsTrue (is_chunk chunk) }
-        ensures { result ≡ true → (tested_with plan.now chunk offset ≤ first) ⊎ IsSettled plan.now chunk offset self.now }
+        requires pace { IsPace pace }
+        ensures { result ≡ true → (tested_with plan.now pace.chunk offset ≤ first) ⊎ IsSettled plan.now pace offset self.now }
     {
-        let rows = tested_rows(plan, chunk, offset);
+        let rows = tested_rows(plan, pace.chunk, offset);
         if rows <= first {
             return true;
         }
-        self.settles_levels(plan, chunk, rows)
+        self.settles_levels(plan, pace, rows)
     }
 
     /// Whether the tally is settled for each level of the plan, where `rows` rows are tested.
-    fn settles_levels(&self, plan: &Plan, chunk: u64, rows: u64) -> bool
+    fn settles_levels(&self, plan: &Plan, pace: Pace, rows: u64) -> bool
         requires plan { IsPlan plan.now }
-        requires chunk { IsTrue (is_chunk chunk) }
-        ensures { (offset : ℕ) → rows ≡ tested_with plan.now chunk offset → result ≡ true →
-            IsSettled plan.now chunk offset self.now }
+        requires pace { IsPace pace }
+        ensures { (offset : ℕ) → rows ≡ tested_with plan.now pace.chunk offset → result ≡ true →
+            IsSettled plan.now pace offset self.now }
     {
         for level in plan.bounds.levels.as_slice() {
-            if !self.settles_level(*level, plan, chunk, rows) {
+            if !self.settles_level(*level, plan, pace, rows) {
                 return false;
             }
         }
@@ -64,11 +65,11 @@ impl RowTally {
     }
 
     /// Whether the tally is settled for a level of the plan, where `rows` rows are tested.
-    fn settles_level(&self, level: Level, plan: &Plan, chunk: u64, rows: u64) -> bool
+    fn settles_level(&self, level: Level, plan: &Plan, pace: Pace, rows: u64) -> bool
         requires plan { IsPlan plan.now }
-        requires chunk { IsTrue (is_chunk chunk) }
-        ensures { (offset : ℕ) → rows ≡ tested_with plan.now chunk offset → result ≡ true →
-            IsSettledFor plan.now chunk offset self.now level }
+        requires pace { IsPace pace }
+        ensures { (offset : ℕ) → rows ≡ tested_with plan.now pace.chunk offset → result ≡ true →
+            IsSettledFor plan.now pace offset self.now level }
     {
         match level {
             Level::Raid0 => true,
@@ -76,21 +77,21 @@ impl RowTally {
             Level::Raid6 => self.breaks_beside(
                 plan.lengths.len(),
                 plan.limits.badrows,
-                chunk,
+                pace.span(),
                 rows,
             ),
         }
     }
 
-    /// Whether more rows than `most` break beside each image, in each of the rows of chunks that are tested.
-    fn breaks_beside(&self, images: usize, most: u64, chunk: u64, rows: u64) -> bool
+    /// Whether more rows than `most` break beside each image, in each of the turns of `span` rows of which some is tested.
+    fn breaks_beside(&self, images: usize, most: u64, span: u64, rows: u64) -> bool
         requires images { images ≤ MOST }
-        requires chunk { chunk ≤ LARGEST_CHUNK }
-        ensures { result ≡ true → (k i : ℕ) → k < images → i < images → k * chunk < rows →
+        requires span { span ≤ 2 ^ 25 }
+        ensures { result ≡ true → (k i : ℕ) → k < images → i < images → k * span < rows →
             most < slice_index (slice_index_or self.now.beside k []) i }
     {
         for turn in 0..images {
-            if (turn as u64) * chunk < rows && !are_above(&self.beside[turn], images, most) {
+            if (turn as u64) * span < rows && !are_above(&self.beside[turn], images, most) {
                 return false;
             }
         }

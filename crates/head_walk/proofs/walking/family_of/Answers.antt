@@ -1,6 +1,7 @@
 use Rattle.std.proofs.Common.{None, length, sym, ◌∙◌}
 use Rattle.std.specs.Option.{option_map}
 use Rattle.prune_filters.specs.Early.{AreEarlyTables, HasEarlyTable}
+use Rattle.prune_filters.specs.Paces.{paces_of}
 use Rattle.head_walk.specs.Counts.{asks_tables}
 use Rattle.head_walk.proofs.Kept.{kept_at, no_table}
 use Rattle.head_walk.proofs.Relating.{lying_some, none_lie, row_images_some}
@@ -31,7 +32,7 @@ returns-clause-admits c =
     let kept = kept_at told c.args.plan.now c.args.kept.now c.entry_at-entry.ensures.0 c.entry_at-entry.result.now all c.entry_at-entry.ensures.1 in
     admits_sifted told c.args.plan.now c.args.sets.now.head c.args.sets.now.space (option_map (λ table. table.now) c.table_for-table.result)
     c.requires.plan c.requires.head.head c.requires.head.among
-    (told_table told (asks_tables c.args.plan.now) (λ bytes. AreEarlyTables bytes c.args.plan.now c.args.plan.now.bounds.chunks.items c.entry_at-entry.result.now.offset c.entry_at-entry.result.now.tables.items)
+    (told_table told (asks_tables c.args.plan.now) (λ bytes. AreEarlyTables bytes c.args.plan.now (paces_of c.args.plan.now) c.entry_at-entry.result.now.offset c.entry_at-entry.result.now.tables.items)
     (λ bytes. HasEarlyTable bytes c.args.plan.now c.args.sets.now.head (option_map (λ table. table.now) c.table_for-table.result)) c.table_for-table.ensures.table kept.tables)
     (option_map (λ r. r.now.list) c.rows_for-rows.result)
     (lying_some (λ r. r.now) told (length c.args.plan.now.lengths.items) c.args.sets.now.head.offset c.entry_at-entry.result.now.offset c.entry_at-entry.result.now.rows c.rows_for-rows.result c.rows_for-rows.ensures.is

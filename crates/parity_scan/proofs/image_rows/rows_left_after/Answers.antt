@@ -1,5 +1,5 @@
-use Rattle.std.proofs.Common.{◌≡◌, ◌+◌, ◌/◌, arith}
-use Rattle.raid_terms.specs.Parity.{is_sound_row}
+use Rattle.std.proofs.Common.{◌≡◌, ◌+◌, ◌/◌, ◌∙◌, ℕ, ap, arith}
+use Rattle.raid_terms.specs.Parity.{is_sound_row, unsound_rows}
 use Rattle.parity_scan.proofs.ImageRows.{next_sound, next_unsound, unsound_rises}
 use Rattle.parity_scan.proofs.WholeRows.{row_itself}
 use Rattle.parity_scan.proofs.image_rows.rows_left_after.Goals as goal
@@ -38,3 +38,12 @@ loop-t-preserved c =
 
 pub is_sound_at-requires-clause-row : goal.is_sound_at-requires-clause-row
 is_sound_at-requires-clause-row c = row_itself c.args.geo.now c.args.sums.now.images (c.loop-t.t / c.args.geo.now.head.chunk) c.turn_row.new.row c.turn_row.ensures
+
+pub returns-clause-left : goal.returns-clause-left
+returns-clause-left c = λ images hold.
+    let so_far = c.loop-t.invariant.counted images hold in
+    let far = c.loop-t.auto.t-end in
+    let done = c.loop-t-test.false in
+    let some = c.requires.rows in
+    let at : c.args.to ≡ c.loop-t.t = omega arith in
+    ap (λ (t : ℕ). unsound_rows images c.args.geo.now t + c.loop-t.rest) at ∙ so_far

@@ -10,6 +10,6 @@ returns-in_err-entry c = none_then _ _ c.from_residual.result c.from_residual.en
 pub returns-else-may_follow : goal.returns-else-may_follow
 returns-else-may_follow c entry is e =
     let same : c.in_ok-entry.entry ≡ entry = same_entry c.in_ok-entry.entry entry c.in_ok-entry.ensures.0 is.0 (sym c.in_ok-entry.ensures.1 ∙ e) in
-    let holds = c.may_follow.ensures.1 (subst (MayFollow c.args.bounding.own c.args.lengths.now c.args.draft.now) (sym same) is.1) in
+    let holds = c.may_follow.ensures.1 (subst (MayFollow c.args.bounding.third c.args.bounding.delayed c.args.lengths.now c.args.draft.now) (sym same) is.1) in
     let fails = c.if-may_follow.false in
     cc

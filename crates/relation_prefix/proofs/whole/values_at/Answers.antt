@@ -1,4 +1,4 @@
-use Rattle.std.proofs.Common.{ℕ, ◌≡◌, ◌∙◌, length, arith}
+use Rattle.std.proofs.Common.{◌∙◌, length, arith}
 use Rattle.std.proofs.Math.ListN.{length-set}
 use Rattle.relation_prefix.proofs.Wholes.{byte_set, value_is, value_set}
 use Rattle.relation_prefix.proofs.whole.values_at.Goals as goal

@@ -1,4 +1,4 @@
-use Rattle.std.proofs.Common.{ℕ, ◌≡◌, ◌+◌, suc, get_or, ap, sym, ◌∙◌, arith, bit_xor}
+use Rattle.std.proofs.Common.{ℕ, ◌≡◌, ◌+◌, suc, get_or, ap, sym, ◌∙◌, arith}
 use Rattle.gf256.specs.Field.{product}
 use Rattle.row_relations.specs.Rows.{field_sum}
 use Rattle.row_relations.proofs.FieldSums.{both, next_sum, no_sum}

@@ -1,4 +1,4 @@
-use Rattle.std.proofs.Common.{ℕ, ◌≡◌, true, false, get_or, length, refl, sym, ◌∙◌}
+use Rattle.std.proofs.Common.{ℕ, get_or, refl, sym, ◌∙◌}
 use Rattle.std.proofs.lemmas.Bool.{false≢true}
 use Rattle.relation_prefix.proofs.Wholes.{foreign_agree, held_agree}
 use Rattle.relation_prefix.proofs.whole.whole_fits.Goals as goal

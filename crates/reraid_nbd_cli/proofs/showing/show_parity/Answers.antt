@@ -9,6 +9,7 @@ use Rattle.outside.specs.Attached.{told_all}
 use Rattle.run_ends.specs.Jobs.{stream}
 use Rattle.raid_params.specs.Size.{volume_sectors}
 use Rattle.raid_params.specs.declared.types.Geometry.{Geometry}
+use Rattle.virtual_volume.proofs.Sets.{served_head}
 use Rattle.volume_device.specs.Cost.{range_cost}
 use Rattle.volume_device.specs.Lengths.{volume_told}
 use Rattle.reraid_nbd_cli.specs.Runs.{costs_of, costing}
@@ -68,3 +69,6 @@ returns-in_err-serve g c =
     (ap (λ f. f.world) fixed ∙ ap (λ v. (g.I.Images.seen v).world) within) (ap (λ f. f.attached) fixed ∙ ap (λ v. (g.I.Images.seen v).attached) within) later c.in_err-serve.ensures.source c.in_err-serve.ensures.sink in
     let p = err_from_is_err_and c.from_residual-in_err-serve.result c.from_residual-in_err-serve.ensures.1 in
     rw (p.1, p.2) (search rules)
+
+pub volume_sectors-sectors-requires-clause-head : goal.volume_sectors-sectors-requires-clause-head
+volume_sectors-sectors-requires-clause-head g c = served_head c.args.geo.now c.args.end (g.I.Images.seen c.args.images.now).attached c.requires

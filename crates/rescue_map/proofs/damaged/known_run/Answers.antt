@@ -51,3 +51,6 @@ returns-then-is_some-clause-run c =
           later_known damage.rescue.now set home.slot home.sector c.args.sector i held c.in-Some.ensures.lies (omega arith) (omega arith) here some
           (c.known_front.ensures.known (home.sector + i) (omega arith) (omega arith));
     }
+
+pub locate-requires-clause-head : goal.locate-requires-clause-head
+locate-requires-clause-head c = testable_head c.args.damage.now.set.now.geo c.requires.set.shape

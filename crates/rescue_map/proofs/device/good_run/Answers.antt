@@ -31,3 +31,6 @@ returns-then-are_all_good-clause-none c =
     let below = mod_below c.args.sector set.geo.head.chunk (some_chunk set.geo.head (testable_head set.geo c.requires.set.shape)) in
     good_kept damage.rescue.now set damage.end c.in-Some.home.slot c.in-Some.home.sector c.args.sector c.min-run.result (damage_of set damage.end c.requires.set.shape c.requires.set.near) c.in-Some.ensures.lies (omega arith)
     (c.are_all_good.ensures c.if-are_all_good.true)
+
+pub locate-requires-clause-head : goal.locate-requires-clause-head
+locate-requires-clause-head c = testable_head c.args.damage.now.set.now.geo c.requires.set.shape

@@ -120,3 +120,6 @@ returns-clause-filled c = λ x inside.
     let slots = row_slots damage.rescue.now set c.in-Some.home.sector row c.damaged-geo.ensures in
     solved_fills damage.rescue.now set c.args.sector slot c.in-Some.home.sector c.in-Some.home.row (length set.geo.slots.items) (get_or c.args.to.now x 0) (get_or c.solve.new.to x 0) x c.deref-2.result.now c.args.row.now row
     c.damaged-geo.ensures c.in-Some.ensures.lies c.in-Some.ensures.row (c.deref-2.ensures.0 ∙ c.row_cells.ensures) (cells ∙ slots) gone few (c.solve.ensures.lost x inside)
+
+pub locate-requires-clause-head : goal.locate-requires-clause-head
+locate-requires-clause-head c = testable_head c.args.damage.now.set.now.geo c.requires.set.shape

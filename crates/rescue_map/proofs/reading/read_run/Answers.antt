@@ -65,3 +65,6 @@ returns-in-Some-clause-told g c =
     (held_some damage.rescue.now set home.slot (home.sector + i) (c.args.sector + i) held (later_lies set.geo.head home.slot home.sector c.args.sector i c.in-Some.ensures.lies (omega arith)) (omega arith) here (c.requires.run.known i below)))
     small)
     c.read_member.ensures.told
+
+pub locate-requires-clause-head : goal.locate-requires-clause-head
+locate-requires-clause-head g c = testable_head c.args.damage.now.set.now.geo c.requires.set.mendable.shape

@@ -157,3 +157,6 @@ returns-clause-reads g c =
           c.damaged-geo.ensures c.in-Some.ensures.lies refl gone few c.read_row.ensures.reads.only;
       cause = c.read_row.ensures.reads.cause;
     }
+
+pub locate-requires-clause-head : goal.locate-requires-clause-head
+locate-requires-clause-head g c = testable_head c.args.damage.now.set.now.geo c.requires.set.mendable.shape

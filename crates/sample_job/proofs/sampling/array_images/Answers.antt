@@ -5,7 +5,7 @@ use Rattle.std.specs.List.{range_with_len}
 use Rattle.image_source.specs.Memory.{Shelf, number_of}
 use Rattle.member_regions.specs.Members.{held}
 use Rattle.sample_arrays.proofs.Ranges.{range_more}
-use Rattle.sample_arrays.proofs.Sampled.{ruled}
+use Rattle.raid_params.proofs.Ruled.{ruled_shape}
 use Rattle.sample_arrays.specs.Arrays.{end_of}
 use Rattle.sample_job.proofs.Asked.{few_held}
 use Rattle.sample_job.proofs.Attached.{attached_are, number_is}
@@ -17,7 +17,7 @@ attach-requires-clause-there c =
     let below = c.loop-image-test.true in
     ap (λ (files : List (List ℕ × List ℕ)). number_of files (decimal c.loop-image.image)) c.loop-image.invariant.0
     ∙ number_is c.args.number c.args.set.now c.args.rows c.args.xfs c.loop-image.image (omega arith)
-    (few_held c.args.set.now (held c.args.set.now.slots.items) (ruled c.args.set.now (held c.args.set.now.slots.items) (end_of c.args.set.now.head c.args.rows) c.requires.ruled))
+    (few_held c.args.set.now (held c.args.set.now.slots.items) (ruled_shape c.args.set.now (held c.args.set.now.slots.items) (end_of c.args.set.now.head c.args.rows) c.requires.ruled))
 
 pub attach-requires-clause-room : goal.attach-requires-clause-room
 attach-requires-clause-room c =

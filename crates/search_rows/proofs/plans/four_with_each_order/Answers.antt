@@ -1,9 +1,8 @@
 use Rattle.std.proofs.Common.{refl}
 use Rattle.raid_params.specs.Validity.{is_chunk}
-use Rattle.search_rows.proofs.TestPlans.{keeps_rules, no_groups, plan_is}
+use Rattle.search_rows.proofs.TestPlans.{keeps_rules, of_items, plan_is}
 use Rattle.search_rows.proofs.plans.four_with_each_order.Goals as goal
 
 pub returns : goal.returns
 unfolding keeps_rules is_chunk
-returns c =
-    plan_is _ _ _ _ _ _ _ _ _ _ _ _ _ _ _ _ _ _ _ _ _ _ _ _ _ c.filled.ensures c.filled-2.ensures c.filled-3.ensures c.filled-4.ensures c.filled-5.ensures c.filled-6.ensures c.filled-7.ensures c.filled-8.ensures c.new.ensures (no_groups _) refl
+returns c = rw (c.four-plan.ensures, of_items c.filled-plan.ensures) (plan_is _ refl refl)

@@ -1,5 +1,5 @@
 use Rattle.std.proofs.Common.{ℕ, sym, ap, ◌∙◌}
-use Rattle.raid_params.specs.Validity.{first_fault}
+use Rattle.raid_params.specs.Validity.{early_fault}
 use Rattle.set_jobs.proofs.SetRefusals.{image_refused, images_refused, rule_refused}
 use Rattle.set_jobs.proofs.mapping.allowed_end.Goals as goal
 
@@ -17,4 +17,4 @@ pub returns-in-Err-clause-refused : goal.returns-in-Err-clause-refused
 returns-in-Err-clause-refused g c =
     let attached = (g.I.Images.seen c.args.images.now).attached in
     rule_refused c.args.set.now c.args.end c.args.names attached c.in-Err.fault (sym c.limits_fault.ensures ∙ c.in_default.is) (sym c.long_for.ensures ∙ c.in_default-long_for.is)
-    (ap (λ (n : ℕ). first_fault c.args.set.now.geo c.args.names n) (sym c.end_of-end.ensures) ∙ c.in-Err.ensures)
+    (ap (λ (n : ℕ). early_fault c.args.set.now.geo c.args.names n) (sym c.end_of-end.ensures) ∙ c.in-Err.ensures)

@@ -1,5 +1,6 @@
 use Rattle.std.proofs.Common.{◌≢◌, ◌∙◌, ℕ, sym, ap, inl, inr, arith}
 use Rattle.std.proofs.lemmas.Bool.{cases_eq, iff_false}
+use Rattle.raid_layouts.proofs.Shapes.{shaped_head}
 use Rattle.volume_classes.specs.Coefficients.{coefficient}
 use Rattle.volume_classes.proofs.Agreeing.{answers_false}
 use Rattle.volume_classes.proofs.alike.agree_in_row.Goals as goal
@@ -20,3 +21,12 @@ loop-item-preserved c item image below lt =
           ∙ ap (λ (i : ℕ). coefficient c.args.other.now c.args.row i image) (sym same)
       | inr apart ↦ (let ne : item ≢ c.loop-item.item = apart in c.loop-item.invariant item image (omega arith) lt)
     ]
+
+pub row_cells-one_cells-requires-clause-head : goal.row_cells-one_cells-requires-clause-head
+row_cells-one_cells-requires-clause-head c = shaped_head c.args.one.now c.args.images c.requires.one
+
+pub row_cells-other_cells-requires-clause-head : goal.row_cells-other_cells-requires-clause-head
+row_cells-other_cells-requires-clause-head c = shaped_head c.args.other.now c.args.images c.requires.other
+
+pub data_blocks-item-end-requires : goal.data_blocks-item-end-requires
+data_blocks-item-end-requires c = shaped_head c.args.one.now c.args.images c.requires.one

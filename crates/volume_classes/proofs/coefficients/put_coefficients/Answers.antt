@@ -2,11 +2,14 @@ use Rattle.std.proofs.Common.{◌∙◌, ℕ, List, arith, ap, get_or, length, s
 use Rattle.std.specs.declared.option.Option.{Option}
 use Rattle.std.specs.declared.option.Option.TheVariants.{None}
 use Rattle.raid_layouts.proofs.Counts.{cells_length}
-use Rattle.raid_layouts.proofs.Shapes.{shaped_slots}
+use Rattle.raid_layouts.proofs.Shapes.{shaped_head, shaped_slots}
 use Rattle.raid_layouts.proofs.Solvable.{row_is}
 use Rattle.raid_terms.specs.Parity.{IsRow}
 use Rattle.volume_classes.proofs.SlotSectors.{lost_coefficient, missing_at}
 use Rattle.volume_classes.proofs.coefficients.put_coefficients.Goals as goal
+
+pub slot_of_item-slot-requires-clause-head : goal.slot_of_item-slot-requires-clause-head
+slot_of_item-slot-requires-clause-head c = shaped_head c.args.geo.now c.requires.shape.0 c.requires.shape.1
 
 pub solve-requires-clause-cells : goal.solve-requires-clause-cells
 solve-requires-clause-cells c = subst IsRow (sym c.requires.cells) (row_is c.args.geo.now c.requires.shape.0 c.args.row c.requires.shape.1)

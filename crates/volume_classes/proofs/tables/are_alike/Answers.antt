@@ -1,7 +1,13 @@
 use Rattle.std.proofs.lemmas.Bool.{iff_false}
 use Rattle.volume_classes.proofs.Agreeing.{answers_false}
-use Rattle.volume_classes.proofs.TableRows.{apart_sizes, rows_tell}
+use Rattle.volume_classes.proofs.TableRows.{apart_sizes, head_valid, rows_tell}
 use Rattle.volume_classes.proofs.tables.are_alike.Goals as goal
+
+pub have_equal_sizes-requires-clause-one : goal.have_equal_sizes-requires-clause-one
+have_equal_sizes-requires-clause-one c = head_valid c.args.images c.args.end c.args.one.now c.requires.one
+
+pub have_equal_sizes-requires-clause-other : goal.have_equal_sizes-requires-clause-other
+have_equal_sizes-requires-clause-other c = head_valid c.args.images c.args.end c.args.other.now c.requires.other
 
 pub returns-then-have_equal_sizes : goal.returns-then-have_equal_sizes
 returns-then-have_equal_sizes c a b a_is b_is =

@@ -93,3 +93,6 @@ returns-clause-told g c =
 pub returns-clause-read : goal.returns-clause-read
 returns-clause-read g c =
     reads_range c.args.geo.now c.args.first (length c.args.to.now / 512) c.loop-at.at (omega arith) c.loop-at.invariant.read
+
+pub row_sectors-row-requires : goal.row_sectors-row-requires
+row_sectors-row-requires g c = served_head c.args.geo.now c.args.end (g.I.Images.seen c.args.images.now).attached c.requires.can.set

@@ -110,3 +110,6 @@ returns-clause-read g c =
     let still = c.read_part-2.ensures.still here in
     let turned : data_blocks geo.head * (length c.args.to.now / 512 / c.row_sectors-row.result * geo.head.chunk) ≡ length c.args.to.now / 512 / c.row_sectors-row.result * row_sectors geo.head = grind arith in
     read_up (read_still c.fill.ensures.read still.0 still.1) (omega (arith, turned, many, step_is_rows geo c.args.first (length c.args.to.now / 512) (omega arith)))
+
+pub row_sectors-row-requires : goal.row_sectors-row-requires
+row_sectors-row-requires g c = served_head c.args.geo.now c.args.end (g.I.Images.seen c.args.images.now).attached c.requires.can.set

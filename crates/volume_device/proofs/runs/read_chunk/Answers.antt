@@ -1,6 +1,6 @@
 use Rattle.std.proofs.Common.{◌/◌, length, arith}
 use Rattle.outside.specs.Attached.{told_all}
-use Rattle.virtual_volume.proofs.Sets.{served_testable}
+use Rattle.virtual_volume.proofs.Sets.{served_head, served_testable}
 use Rattle.volume_device.proofs.Chunks.{run_among, run_data, run_near}
 use Rattle.volume_device.proofs.Memory.{can_keep}
 use Rattle.volume_device.proofs.Rows.{among_test}
@@ -27,3 +27,6 @@ pub returns-in-Some-clause-still : goal.returns-in-Some-clause-still
 returns-in-Some-clause-still g c = λ among.
     let bounds = run_among c.args.geo.now.head c.args.kept.now.first c.args.kept.now.count c.args.first (length c.args.to.now / 512) c.in-Some.home.sector (omega arith) c.requires.chunk c.in-Some.ensures.lies.place among in
     c.read_run.ensures.still (among_test c.args.kept.now.first c.args.kept.now.count c.in-Some.home.sector (length c.args.to.now / 512) bounds.0 bounds.1)
+
+pub locate-requires-clause-head : goal.locate-requires-clause-head
+locate-requires-clause-head g c = served_head c.args.geo.now c.args.end (g.I.Images.seen c.args.images.now).attached c.requires.can.set

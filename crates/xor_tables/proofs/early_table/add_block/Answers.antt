@@ -1,5 +1,6 @@
 use Rattle.std.proofs.Common.{◌≡◌, ◌≢◌, ℕ, ◌+◌, ◌<◌, min, length, get_or, arith, refl, sym, subst, ◌∙◌}
 use Rattle.std.proofs.lemmas.List.{get_or-set_other, get_or_read_under, length-set}
+use Rattle.xor_tables.specs.Paces.{pace_at, span}
 use Rattle.xor_tables.specs.Xors.{AreFew, CountRows, RowTable}
 use Rattle.search_plan.specs.Rows.{tested_with}
 use Rattle.slot_math.proofs.Lists.{each_set}
@@ -10,10 +11,10 @@ loop-place-preserved c =
     let within : c.loop-place.place < length c.loop-place.tables.items = let long = c.loop-place.invariant.long in let same = c.requires.tables in let lt = c.loop-place-test.true in omega arith in
     record {
       done = λ bytes hold before k none lt.
-          let P : ℕ → RowTable → Type 0 = λ n table. CountRows bytes (length c.args.plan.now.lengths.items) (get_or c.args.chunks.now n 0) c.args.offset
-          (min (c.args.first + c.args.count) (tested_with c.args.plan.now (get_or c.args.chunks.now n 0) c.args.offset)) table in
-          let Q : RowTable → Type 0 = λ table. CountRows bytes (length c.args.plan.now.lengths.items) (get_or c.args.chunks.now c.loop-place.place 0) c.args.offset
-          (min c.args.first (tested_with c.args.plan.now (get_or c.args.chunks.now c.loop-place.place 0) c.args.offset)) table in
+          let P : ℕ → RowTable → Type 0 = λ n table. CountRows bytes (length c.args.plan.now.lengths.items) (span (pace_at c.args.paces.now n)) c.args.offset
+          (min (c.args.first + c.args.count) (tested_with c.args.plan.now (pace_at c.args.paces.now n).chunk c.args.offset)) table in
+          let Q : RowTable → Type 0 = λ table. CountRows bytes (length c.args.plan.now.lengths.items) (span (pace_at c.args.paces.now c.loop-place.place)) c.args.offset
+          (min c.args.first (tested_with c.args.plan.now (pace_at c.args.paces.now c.loop-place.place).chunk c.args.offset)) table in
           let read : c.index_mut.result.now ≡ get_or c.loop-place.tables.items c.loop-place.place none
           = get_or_read_under c.loop-place.tables.items c.loop-place.place (length c.loop-place.tables.items) c.index_mut.result.now none c.index_mut.ensures.value within refl in
           let same : c.index_mut.result.now ≡ get_or c.args.tables.now.items c.loop-place.place none = read ∙ c.loop-place.invariant.rest c.loop-place.place none (omega arith) in

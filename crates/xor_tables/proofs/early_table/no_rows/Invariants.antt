@@ -6,6 +6,6 @@ use Rattle.xor_tables.proofs.early_table.no_rows.Given as goal
 abbrev pub invariant-loop : goal.invariant-loop
 invariant-loop l = record {
   long : length l.tables.items ≡ l.counter;
-  counts : (images : List (List ℕ)) (members chunk offset : ℕ) → All (CountRows images members chunk offset 0) l.tables.items;
+  counts : (images : List (List ℕ)) (members span offset : ℕ) → All (CountRows images members span offset 0) l.tables.items;
   few : AreAllFew 0 l.tables.items;
 }

@@ -11,11 +11,11 @@ abbrev pub invariant-loop-first : goal.invariant-loop-first
 invariant-loop-first g l = record {
   faults : (g.I.Images.seen l.images).faults ≡ (g.I.Images.seen l.fn.images).faults;
   reads : OnlyReads (g.I.Images.seen l.fn.images) (g.I.Images.seen l.images) (length l.plan.lengths.items * l.first);
-  told : IfSome (told_all (g.I.Images.seen l.fn.images).attached) (λ bytes. CountFirst bytes l.plan l.chunks l.offset l.first l.tables.items);
+  told : IfSome (told_all (g.I.Images.seen l.fn.images).attached) (λ bytes. CountFirst bytes l.plan l.paces l.offset l.first l.tables.items);
   few : AreAllFew l.first l.tables.items;
   within : l.first ≤ l.rows;
   room : IsRoomFor (length l.plan.lengths.items) BLOCK l.regions;
-  long : length l.tables.items ≡ length l.chunks;
+  long : length l.tables.items ≡ length l.paces;
   telling_images : l.sampler.telling.kept.images ≡ length l.plan.lengths.items;
   others_images : l.sampler.others.kept.images ≡ length l.plan.lengths.items;
   below : LieBelow l.first l.sampler;

@@ -10,7 +10,7 @@ loop-j-preserved c =
       counts = λ bytes offset told before.
           let none : ImageSum = record { is_zero = false; is_blank = false; is_image = [] } in
           let at : offset + c.args.first + c.loop-j.j ≡ offset + (c.args.first + c.loop-j.j) = omega arith in
-          subst (λ (n : ℕ). CountRows bytes c.args.images c.args.chunk offset n c.add_row.new.self) next
+          subst (λ (n : ℕ). CountRows bytes c.args.images c.args.span offset n c.add_row.new.self) next
           (c.add_row.ensures.counts bytes offset
           (subst (λ (n : ℕ). IsSumOf bytes c.args.images n (get_or c.args.sums.now c.loop-j.j none)) at (told c.loop-j.j none c.loop-j-test.true))
           (c.loop-j.invariant.counts bytes offset told before));

@@ -1,4 +1,4 @@
-use Rattle.std.proofs.Common.{◌≡◌, ℕ, ◌+◌, ◌-◌, ◌^◌, ◌<◌, min, List, [], set, Some, None, length, arith, ap, sym, ◌∙◌}
+use Rattle.std.proofs.Common.{◌≡◌, ℕ, ◌+◌, ◌-◌, ◌*◌, ◌^◌, ◌<◌, min, List, [], set, Some, None, length, arith, ap, sym, ◌∙◌}
 use Rattle.std.proofs.lemmas.List.{length-set}
 use Rattle.std.specs.List.{range_with_len, slice_index_or, sum_by}
 use Rattle.raid_terms.specs.Role.{q_of}
@@ -15,11 +15,11 @@ loop-turn-init c = record { long = c.nowhere-placed.ensures.long; sum = λ prefi
 pub loop-turn-preserved : goal.loop-turn-preserved
 loop-turn-preserved c =
     let table : RowTable = record { all = c.self.inside.all; beside = c.self.inside.beside } in
-    let asked : c.q_slot.result ≡ q_of c.args.head.now c.loop-turn.turn = c.q_slot.ensures ∙ ap (q_of c.args.head.now) c.from.ensures in
+    let asked : c.q_slot.result ≡ q_of c.args.head.now (c.loop-turn.turn * c.args.head.now.delay) = c.q_slot.ensures ∙ ap (q_of c.args.head.now) c.first_row.ensures in
     elim c.match-q_slot.branch [
       | in-Some w ↦
-          let at : q_of c.args.head.now c.loop-turn.turn ≡ Some w.in-Some.slot = sym asked ∙ w.in-Some.is in
-          let there : w.in-Some.slot < length c.loop-turn.placed = let low = q_within c.args.head.now c.loop-turn.turn w.in-Some.slot c.requires.head at in let long = c.loop-turn.invariant.long in omega arith in
+          let at : q_of c.args.head.now (c.loop-turn.turn * c.args.head.now.delay) ≡ Some w.in-Some.slot = sym asked ∙ w.in-Some.is in
+          let there : w.in-Some.slot < length c.loop-turn.placed = let low = q_within c.args.head.now (c.loop-turn.turn * c.args.head.now.delay) w.in-Some.slot c.requires.head at in let long = c.loop-turn.invariant.long in omega arith in
           record {
             long = ap length w.placed-is ∙ length-set c.loop-turn.placed w.in-Some.slot w.sums_of.result ∙ c.loop-turn.invariant.long;
             sum = λ prefix images.
@@ -36,7 +36,7 @@ loop-turn-preserved c =
                 omega arith;
           }
       | in_default w ↦
-          let at : q_of c.args.head.now c.loop-turn.turn ≡ None = sym asked ∙ w.in_default.is in
+          let at : q_of c.args.head.now (c.loop-turn.turn * c.args.head.now.delay) ≡ None = sym asked ∙ w.in_default.is in
           record {
             long = ap length w.placed-is ∙ c.loop-turn.invariant.long;
             sum = λ prefix images.

@@ -3,7 +3,7 @@ use Rattle.address_map.proofs.Heads.{chunk_above}
 use Rattle.xor_tables.proofs.row_tally.RowTally.suffices.Goals as goal
 
 pub tested_rows-rows-requires : goal.tested_rows-rows-requires
-tested_rows-rows-requires c = record { chunk = chunk_above c.args.chunk c.requires.chunk }
+tested_rows-rows-requires c = record { chunk = chunk_above c.args.pace.chunk c.requires.pace.chunk }
 
 pub returns-then-rows-first : goal.returns-then-rows-first
 returns-then-rows-first c = λ e. inl (let value = c.tested_rows-rows.ensures.value in let few = c.if-rows-first.true in omega arith)

@@ -5,17 +5,20 @@ left-symmetric, with Q in the order after Q, its data from sector 2048 on and no
 Usage: disks.py [pattern=NAME] [syndrome=NAME] [offsets=LIST] LEVEL CHUNK VOLUME DISK..
 LEVEL is 0, 5 or 6, or for two to four copies of each chunk near2, far2 or offset2, and so on. CHUNK is in sectors of
 512 bytes. The disks are written in the order of their slots; the volume is filled up with zeros to whole rows. NAME is
-one that reraid has for a pattern or an order of Q; LIST is the sector at which the data begin, on all disks, or on each,
-with commas. Then all disks are as long as the one whose data begin last, by noise after the data.
+one that reraid has for a pattern or an order of Q, as la*16 where the parity stays for 16 rows before it moves on; LIST is
+the sector at which the data begin, on all disks, or on each, with commas. Then all disks are as long as the one whose data
+begin last, by noise after the data.
 """
 
 import random
+import re
 import sys
 
 SECTOR = 512
 PARITY = {"0": 0, "5": 1, "6": 2}
 PATTERNS = {"0": ["plain"], "5": ["ls", "la", "ra", "rs", "parity-first", "parity-last"]}
 PATTERNS["6"] = PATTERNS["5"] + ["n-restart", "n-continue", "la-6", "ra-6", "ls-6", "rs-6", "parity-first-6"]
+LONGEST_DELAY = 1024
 ORDERS = ["after-q", "by-data", "by-slot"]
 COPIES = [f"{kind}{count}" for kind in ("near", "far", "offset") for count in (2, 3, 4)]
 
@@ -85,9 +88,19 @@ def exponents(pattern, row, members, order):
     return {slot: by(slot) for slot in items}
 
 
+def delayed(pattern):
+    """The name of a pattern, and for how many rows its parity stays before it moves on; no name where that makes no sense."""
+    name, mark, rows = pattern.partition("*")
+    if mark and (name.startswith(("plain", "parity-")) or not re.fullmatch("[1-9][0-9]*", rows) or not 2 <= int(rows) <= LONGEST_DELAY):
+        return "", 1
+    return name, int(rows or 1)
+
+
 def row_of(items, row, members, pattern, order):
     """The blocks of a row by their slots. With one slot more than items there is P, with two P and Q."""
     parity = members - len(items)
+    pattern, delay = delayed(pattern)
+    row //= delay
     taken, data = parity_slots(pattern, row, members, parity), dict(zip(item_slots(pattern, row, members, parity), items))
     blocks = dict(data)
     if parity:
@@ -154,7 +167,8 @@ def main():
     level, chunk, volume, *names = words
     patterns = PATTERNS.get(level, [None])
     pattern, offsets = asked["pattern"] or patterns[0], [int(sector) for sector in asked["offsets"].split(",")]
-    if pattern not in patterns or asked["syndrome"] not in ORDERS or len(offsets) not in (1, len(names)):
+    known = pattern is None or delayed(pattern)[0] in patterns
+    if not known or asked["syndrome"] not in ORDERS or len(offsets) not in (1, len(names)):
         sys.exit(__doc__)
     with open(volume, "rb") as file:
         data = file.read()

@@ -15,7 +15,7 @@ sys.path.insert(0, str(pathlib.Path(__file__).resolve().parents[2] / "bench/maki
 import disks  # noqa: E402
 
 PAGE = pathlib.Path(__file__).resolve().parents[2] / "docs/LAYOUTS.md"
-PARTS = {"Level 0": "0", "Level 5": "5", "Level 6": "6", "RAID 10": "10"}
+PARTS = {"Level 0": "0", "Level 5": "5", "Level 6": "6", "Delayed parity": "5", "RAID 10": "10"}
 # How many copies the pictures of RAID 10 have.
 COPIES = 2
 
@@ -24,7 +24,7 @@ def pictures():
     """The level, the pattern and the rows of each picture."""
     level, pattern, rows = None, "plain", None
     for line in PAGE.read_text().splitlines():
-        heading, name = re.match(r"## (.*)", line), re.match(r"### ([a-z0-9-]+)|`([a-z0-9-]+)`:", line)
+        heading, name = re.match(r"## (.*)", line), re.match(r"### ([a-z0-9*-]+)|`([a-z0-9-]+)`:", line)
         if heading:
             level = PARTS.get(heading[1])
         elif line == "```":
@@ -44,9 +44,11 @@ def drawn(level, pattern, rows):
         chunks = bytes(range(len(rows) * members // COPIES))
         return [[str(cell) for cell in row] for row in zip(*disks.mirrored(chunks, 1, members, pattern, random.Random(0)))]
     parity, made = disks.PARITY[level], []
+    pattern, delay = disks.delayed(pattern)
     for row in range(len(rows)):
-        cells = dict(zip(disks.parity_slots(pattern, row, members, parity), "PQ")) if parity else {}
-        cells |= {slot: str(item) for item, slot in enumerate(disks.item_slots(pattern, row, members, parity))}
+        turn = row // delay
+        cells = dict(zip(disks.parity_slots(pattern, turn, members, parity), "PQ")) if parity else {}
+        cells |= {slot: str(item) for item, slot in enumerate(disks.item_slots(pattern, turn, members, parity))}
         made.append([cells[slot] for slot in range(members)])
     return made
 

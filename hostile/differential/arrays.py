@@ -2,20 +2,25 @@
 
 import functools
 
-from texts import REDUNDANCY, SECTOR
+from texts import REDUNDANCY, SECTOR, STAYING
 
 
 # Layouts, as docs/LAYOUTS.md draws them
 
 def turns(pattern, members):
-    """After how many rows a layout repeats."""
-    if pattern == "plain" or pattern.startswith("parity-"):
+    """After how many turns a layout repeats."""
+    if pattern in STAYING:
         return 1
     return members - 1 if pattern.endswith("-6") else members
 
 
+def row_cells(found, row):
+    """What stands in each slot of a row of a set: "P", "Q" or the number of an item."""
+    return cells(found.level, found.pattern, found.members, found.turn(row))
+
+
 def cells(level, pattern, members, row):
-    """What stands in each slot of a row: "P", "Q" or the number of an item."""
+    """The same where parity moves in each row, mostly."""
     return turned_cells(level, pattern, members, row % turns(pattern, members))
 
 
@@ -46,8 +51,13 @@ def turned_cells(level, pattern, members, row):
     return tuple(made)
 
 
+def row_exponents(found, row):
+    """The exponent of each slot of a row of a set that holds data, and None for the others, at level 6."""
+    return exponents(found.pattern, found.syndrome, found.members, found.turn(row))
+
+
 def exponents(pattern, syndrome, members, row):
-    """The exponent of each slot that holds data, and None for the others, at level 6."""
+    """The same where parity moves in each row, mostly."""
     return turned_exponents(pattern, syndrome, members, row % turns(pattern, members))
 
 
@@ -62,6 +72,8 @@ def turned_exponents(pattern, syndrome, members, row):
 
 
 def layout_name(found):
+    if found.delay != 1:
+        return None
     plain = {"la": "left-asymmetric", "ra": "right-asymmetric", "ls": "left-symmetric", "rs": "right-symmetric",
              "parity-first": "parity-first", "parity-last": "parity-last"}
     if found.level == 0:
@@ -116,8 +128,8 @@ class Row:
     def __init__(self, found, images, sector, lost=lambda image, sector: False):
         row = sector // found.chunk
         self.found = found
-        self.cells = cells(found.level, found.pattern, found.members, row)
-        self.logs = exponents(found.pattern, found.syndrome, found.members, row) if found.level == 6 else [None] * found.members
+        self.cells = row_cells(found, row)
+        self.logs = row_exponents(found, row) if found.level == 6 else [None] * found.members
         self.blocks = [None] * found.members
         for slot, image in enumerate(found.slots):
             if image is not None and not lost(image, found.base(image) + sector):
@@ -184,7 +196,7 @@ def image_equation(factors, slots):
 
 def equations(found, row):
     """The equations over images that tell of a row of a set."""
-    turn = row % turns(found.pattern, found.members)
+    turn = found.turn(row) % turns(found.pattern, found.members)
     lost = (found.slots.index(None),) if found.lost else ()
     return [image_equation(factors, found.slots)
             for factors in slot_equations(found.level, found.pattern, found.syndrome, found.members, turn, lost)]
@@ -237,7 +249,7 @@ def unsound_rows(found, sums, tested, most=None):
         # cut so, the images have one common offset
         sums, begin = sums.after(found.bases), 0
     alike = found.level == 5 or turns(found.pattern, found.members) == 1
-    wide, count = tested if alike else found.chunk, 0
+    wide, count = tested if alike else found.chunk * found.delay, 0
     for first in range(max(0, sums.zeros - begin) // wide * wide, tested, wide):
         at, end, told = begin + first, begin + min(first + wide, tested), equations(found, first // found.chunk)
         while at < end:
@@ -277,7 +289,7 @@ def volume_sector(found, slot, sector, end):
     if not 0 <= sector < found.area(end):
         return None
     row = sector // found.chunk
-    item = cells(found.level, found.pattern, found.members, row)[slot]
+    item = row_cells(found, row)[slot]
     return (row * found.data + item) * found.chunk + sector % found.chunk if isinstance(item, int) else None
 
 

@@ -6,7 +6,7 @@ import math
 
 from class_cases import classes_case
 from generated import array_images
-from making import (NAMES, Case, an_end, changed_set, files_of, finished, long_plan, shuffled, some_array, some_bytes, some_plan, torn)
+from making import (NAMES, Case, an_end, changed_set, files_of, finished, long_plan, shuffled, some_array, some_bytes, some_delay, some_plan, torn)
 from mirror_cases import goes_far, mirrors_case, mirrorwrite_case
 from product import Product
 from relation_cases import relations_case
@@ -137,8 +137,9 @@ def order_case(rng):
     pattern, syndrome = rng.choice(SIX if level == 6 else FIVE), rng.choice(SYNDROMES[1:]) if level == 6 else SYNDROMES[0]
     slots = list(range(members - lost)) + [None] * lost
     rng.shuffle(slots)
-    chunk, rows = rng.choice([1, 1, 2, 4]), rng.randint(2, 6)
-    found = Set(level, pattern, syndrome, chunk, 0 if own else rng.choice([0, 0, 1, 3]), slots)
+    chunk, delay = rng.choice([1, 1, 2, 4]), some_delay(rng, pattern)
+    rows = rng.randint(2, 6 if delay == 1 else 12)
+    found = Set(level, pattern, syndrome, chunk, 0 if own else rng.choice([0, 0, 1, 3]), slots, delay=delay)
     images = [bytearray(image) for image in array_images(found, rows, weak_volume(rng, rows * chunk * found.data))]
     offsets = {found.offset}
     if own:
@@ -154,15 +155,17 @@ def order_case(rng):
     rng.shuffle(images)
     given = {"levels": [level], "members": [members], "patterns": {pattern, *rng.sample(SIX if level == 6 else FIVE, rng.choice([0, 1, 2]))},
              "syndromes": {syndrome, *(rng.sample(SYNDROMES[1:], rng.choice([0, 1])) if level == 6 else [])},
+             "delays": {delay, *rng.sample([1, 2, 3, 16], rng.choice([0, 0, 0, 1]))},
              "chunks": {chunk, *rng.sample([1, 2, 4], rng.choice([0, 0, 1]))}, "offsets": offsets | {rng.choice([0, 1, 2])},
              "missing": min(2, lost + rng.choice([0, 0, 0, 1])), "foreign": 0 if own else foreign + rng.choice([0, 0, 0, 1]),
              "badrows": rng.choice([0, 0, damaged, damaged, max(0, damaged - 1), damaged + 1, 64]),
              "window": rng.choice([1, 2, rows, sectors, FAR - 1, FAR - 1]), "misfits": 0, "least": 1, "origins": [0]}
-    for name, known in (("patterns", PATTERNS), ("syndromes", SYNDROMES), ("chunks", [1, 2, 4]), ("offsets", [0, 1, 2, 3])):
+    for name, known in (("patterns", PATTERNS), ("syndromes", SYNDROMES), ("chunks", [1, 2, 4]), ("offsets", [0, 1, 2, 3]),
+                        ("delays", range(1, 1025))):
         given[name] = sorted(given[name], key=known.index)
     while True:
         plan = Plan([len(image) // SECTOR for image in images], sectors, given, [], own)
-        longer = [name for name in ("patterns", "syndromes", "chunks", "offsets") if len(given[name]) > (2 if own and name == "offsets" else 1)]
+        longer = [name for name in ("patterns", "delays", "syndromes", "chunks", "offsets") if len(given[name]) > (2 if own and name == "offsets" else 1)]
         if Product(plan).total <= 5000 or not longer:
             break
         given[rng.choice(longer)].pop()

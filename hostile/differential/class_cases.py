@@ -2,17 +2,18 @@
 
 from arrays import cells
 from making import EDGES, Case, shuffled, some_set, with_edge
-from texts import FIVE, RANKS, REDUNDANCY, SIX, SYNDROMES, Set
+from texts import FIVE, LONGEST_DELAY, RANKS, REDUNDANCY, SIX, STAYING, SYNDROMES, Set
 
 
 def twin(rng, found, images):
-    """A set that may give the same volume: another order of Q, pattern or order of the same images, or one lost image more or less."""
-    way, slots = rng.randrange(6), list(found.slots)
+    """A set that may give the same volume: another order of Q, pattern, delay or order of the same images, or one lost image more or less."""
+    way, slots = rng.randrange(7), list(found.slots)
     made = found.like()
     if way == 0 and found.level == 6:
         made.syndrome = rng.choice(SYNDROMES[1:])
     elif way == 1 and found.level:
         made.pattern = rng.choice(FIVE if found.level == 5 else SIX)
+        made.delay = 1 if made.pattern in STAYING else found.delay
     elif way == 2:
         step = rng.randrange(found.members)
         made.slots = tuple(slots[step:] + slots[:step])
@@ -20,6 +21,8 @@ def twin(rng, found, images):
         one, other = rng.sample(range(found.members), 2)
         slots[one], slots[other] = slots[other], slots[one]
         made.slots = tuple(slots)
+    elif way == 6 and found.pattern not in STAYING:
+        made.delay = rng.choice([1, 2, 3, 4, 6, 16, LONGEST_DELAY])
     elif way == 4 and found.level and found.lost < REDUNDANCY[found.level]:
         slots[rng.choice([slot for slot in range(found.members) if slots[slot] is not None])] = None
         made.slots = tuple(slots)
@@ -54,7 +57,8 @@ def classes_case(rng):
         return Case(["classes", "images=2", f"end={rng.choice([0, 1, 1, 1])}", "--"], "".join(line + "\n" for line in lines).encode())
     found = some_set(rng)
     images = max([slot for slot in found.slots if slot is not None], default=0) + rng.choice([1, 1, 2, 3])
-    rows = rng.choice([1, 1, 2, 3, found.members, found.members + 1, found.members * (found.members - 1), 40])
+    rows = rng.choice([1, 1, 2, 3, found.members, found.members + 1, found.members * (found.members - 1), 40, found.delay, found.delay + 1,
+                       found.delay * found.members])
     end = min(found.offset + rows * found.chunk + rng.choice([0, 0, 0, 1]), 120)
     sets = [found]
     for _ in range(rng.choice([0, 1, 2, 3, 5, 8])):

@@ -3,7 +3,7 @@
 import struct
 from array import array
 
-from arrays import added, cells, exponents, times
+from arrays import added, row_cells, row_exponents, times
 from texts import RANKS, SECTOR
 
 
@@ -46,14 +46,14 @@ def array_images(found, rows, volume):
 
 def chunks_of_volume(found, volume, row):
     """The chunks of a row of an array that holds a volume, by their slots."""
-    made, wide = cells(found.level, found.pattern, found.members, row), found.chunk * SECTOR
+    made, wide = row_cells(found, row), found.chunk * SECTOR
     starts = {slot: (row * found.data + item) * wide for slot, item in enumerate(made) if isinstance(item, int)}
     chunks = {slot: volume[start:start + wide] for slot, start in starts.items()}
     items = list(chunks)
     if "P" in made:
         chunks[made.index("P")] = added([chunks[slot] for slot in items])
     if "Q" in made:
-        logs = exponents(found.pattern, found.syndrome, found.members, row)
+        logs = row_exponents(found, row)
         chunks[made.index("Q")] = added([times(chunks[slot], logs[slot]) for slot in items])
     return chunks
 

@@ -2,11 +2,11 @@
 
 import copy
 
-from arrays import cells, held
+from arrays import held, row_cells
 from generated import array_images
 from product import Product
-from texts import (FAR, FIVE, KINDS, LEVELS, MARKS_OF, MOST, MOVED, PATTERNS, RANKS, REDUNDANCY, SECTOR, SIX, SYNDROMES, Group, Mark, Plan, Set,
-                   Stop, read_plan)
+from texts import (FAR, FIVE, KINDS, LEVELS, LONGEST_DELAY, MARKS_OF, MOST, MOVED, PATTERNS, RANKS, REDUNDANCY, SECTOR, SIX, STAYING, SYNDROMES,
+                   Group, Mark, Plan, Set, Stop, read_plan)
 
 EDGES = [0, 1, 2, 3, 15, 16, 17, 23, 24, 25, 63, 64, 65, 100, 4095, 4096, 4097, 32767, 32768, 65535, 65536, 65537, 999999, 1000000,
          1000001, 2 ** 32 - 1, 2 ** 32, MOVED - 1, MOVED, FAR - 1, FAR, FAR + 1, RANKS - 1, RANKS, 10 ** 25]
@@ -35,7 +35,12 @@ def some_set(rng, most=6):
     rng.shuffle(slots)
     chunk = rng.choice([1, 1, 1, 2, 2, 4, 8])
     offset = rng.choice([0, 0, 0, 1, 2, 3, 5, 8])
-    return Set(level, pattern, syndrome, chunk, offset, slots)
+    return Set(level, pattern, syndrome, chunk, offset, slots, delay=some_delay(rng, pattern))
+
+
+def some_delay(rng, pattern):
+    """For how many rows the parity of a pattern stays: mostly for one, and else mostly for few, as there are few rows."""
+    return 1 if pattern in STAYING or rng.random() < 0.7 else rng.choice([2, 2, 2, 3, 3, 4, 16, LONGEST_DELAY])
 
 
 def some_bytes(rng, count):
@@ -60,7 +65,7 @@ def some_array(rng, own=False):
     found = some_set(rng, 4 if own else 6)
     if own and found.members - found.lost > 1:
         found = found.like(bases=some_bases(rng, found.members - found.lost))
-    rows = rng.randint(1, 4)
+    rows = rng.randint(1, 4 if found.delay == 1 else 8)
     size = rows * found.chunk * found.data
     made = array_images(found, rows, some_bytes(rng, size * SECTOR))
     images = [bytearray(some_bytes(rng, found.base(place) * SECTOR)) + image[found.offset * SECTOR:] for place, image in enumerate(made)]
@@ -108,7 +113,7 @@ def some_marks(rng, found, images, size, plan_end):
             place = rng.randrange(size)
             chunk, inner = divmod(place, found.chunk)
             row, item = divmod(chunk, found.data)
-            image = found.slots[cells(found.level, found.pattern, found.members, row).index(item)]
+            image = found.slots[row_cells(found, row).index(item)]
             sector = None if image is None else found.base(image) + row * found.chunk + inner
             if image is None or rng.random() < 0.15:
                 image = rng.randrange(len(images))
@@ -155,6 +160,13 @@ def some_offsets(rng, found, each):
     return sorted(known | set(rng.sample(others, rng.choice([0, 0, 1] if known else [1]))))
 
 
+def some_delays(rng, found):
+    """Delays with that of the set in them, mostly; where that is 1, mostly it alone."""
+    if found.delay == 1 and rng.random() < 0.8:
+        return [1]
+    return some_list(rng, found.delay, [1, 2, 3, 4, 5, 16, LONGEST_DELAY], rng.choice([2, 3]))
+
+
 def some_plan(rng, found, images, size, most=1500):
     """A plan that has the set, mostly, and no more than so many sets."""
     each = rng.random() < (0.9 if found.bases else 0.04)
@@ -166,6 +178,7 @@ def some_plan(rng, found, images, size, most=1500):
         "levels": some_list(rng, found.level, LEVELS),
         "members": some_list(rng, found.members, list(range(2, MOST + 1)), 2),
         "patterns": some_list(rng, found.pattern, PATTERNS),
+        "delays": some_delays(rng, found),
         "syndromes": some_list(rng, found.syndrome, SYNDROMES),
         "chunks": some_list(rng, found.chunk, [2 ** power for power in range(rng.choice([4, 4, 16]))], 2),
         "offsets": some_offsets(rng, found, each),
@@ -184,7 +197,7 @@ def some_plan(rng, found, images, size, most=1500):
     if rng.random() < 0.4:
         plan.groups = [group._replace(bounds=some_bounds(rng, plan, found, group)) for group in plan.groups]
     plan.third = rng.random() < 0.03
-    known = {"levels": [found.level], "members": [found.members], "patterns": [found.pattern], "syndromes": [found.syndrome],
+    known = {"levels": [found.level], "members": [found.members], "patterns": [found.pattern], "delays": [found.delay], "syndromes": [found.syndrome],
              "chunks": [found.chunk], "offsets": sorted(set(found.bases or [found.offset]))}
     while Product(plan).total > most:
         longer = [name for name in known if len(getattr(plan, name)) > len(known[name])]
@@ -218,18 +231,38 @@ def torn_bounds(rng, lines):
     return b"\n".join(lines)
 
 
+def torn_delays(rng, lines):
+    """The text of these lines with delays that no plan has, twice, elsewhere or none, or as a plan of another version."""
+    place = next(place for place, line in enumerate(lines) if line.startswith(b"delays"))
+    way = rng.randrange(6)
+    if way == 0:
+        return b"\n".join(rng.choice([[b"reraid-plan 1"], [b"reraid-plan 2"]]) + lines[2:])
+    others = [b"1", b"0,2", b"2,2", b"3,2", b"1025", b"1,1024", b"2,1025", b"01,2", b"", b"1,", b"2 ", b",".join(b"%d" % n for n in range(2, 19)),
+              b",".join(b"%d" % n for n in range(1, 17))]
+    if way < 4:
+        lines[place] = b"delays " + rng.choice(others)
+    elif way == 4:
+        lines.insert(place + rng.choice([-1, 0, 1, 2]), lines[place])
+    else:
+        line = lines.pop(place)
+        lines[place:place] = rng.choice([[], [lines.pop(place), line]])
+    return b"\n".join(lines)
+
+
 def torn_once(rng, text):
     lines = text.split(b"\n")
     place = rng.randrange(len(lines))
     way = rng.randrange(10)
     if b"\nbounds" in text and rng.random() < 0.3:
         return torn_bounds(rng, lines)
+    if b"\ndelays" in text and rng.random() < 0.3:
+        return torn_delays(rng, lines)
     if way == 0:
         return text[:rng.randrange(len(text) + 1)]
     if way == 1:
         del lines[place]
     elif way == 2:
-        lines.insert(place, rng.choice([lines[rng.randrange(len(lines))]] * 5 + [b"bounds 0 1"]))
+        lines.insert(place, rng.choice([lines[rng.randrange(len(lines))]] * 5 + [b"bounds 0 1", b"delays 2", b"delays 1"]))
     elif way == 3:
         other = rng.randrange(len(lines))
         lines[place], lines[other] = lines[other], lines[place]
@@ -307,7 +340,9 @@ def torn_words(rng, words):
         words.insert(place, rng.choice(["--", "", "size=1", "form=json", "end=0", "set=0:plain:none:1:0:0,1", "x", "list", "pages=2",
                                         "pages=40001", "size=1000000", "=", "from=", "kinds=gpt", "kinds=gpt,lvm,ext", "mode=each",
                                         "mode=common", "logical=4096", "foreign=0", "foreign=1", "offsets=1,18014398509481984", "missing=1",
-                                        "form=lost", "set=near2:1:0:0,1", "set=5:ls:none:1:0+0+1:0,1,2"]))
+                                        "form=lost", "set=near2:1:0:0,1", "set=5:ls:none:1:0+0+1:0,1,2", "delays=1", "delays=2,16", "delays=16,2",
+                                        "delays=1,1025", "delays=0", "set=5:la*2:none:1:0:0,1,2", "set=5:la*1:none:1:0:0,1,2",
+                                        "set=5:la*02:none:1:0:0,1,2", "set=5:la*:none:1:0:0,1,2", "set=5:la*4294967296:none:1:0:0,1,2"]))
     elif way == 3:
         other = rng.randrange(len(words))
         words[place], words[other] = words[other], words[place]
@@ -364,9 +399,11 @@ def other_bases(rng, found, images):
 def changed_set(rng, found, images):
     """The set, or one like it."""
     way, slots, chunk, offset = rng.random(), list(found.slots), found.chunk, found.offset
-    level, pattern, syndrome, bases = found.level, found.pattern, found.syndrome, found.bases
-    if way < 0.35:
+    level, pattern, syndrome, bases, delay = found.level, found.pattern, found.syndrome, found.bases, found.delay
+    if way < 0.33:
         return found
+    if way < 0.35:
+        return found.like(delay=rng.choice([1, 2, 2, 3, 16, LONGEST_DELAY, LONGEST_DELAY + 1, 2 ** 32 - 1]))
     if way < 0.5:
         rng.shuffle(slots)
     elif way < 0.56:
@@ -389,7 +426,7 @@ def changed_set(rng, found, images):
         slots.pop()
     elif len(slots) < MOST:
         slots.append(rng.choice([None, 0, len(images)]))
-    return Set(level, pattern, syndrome, chunk, offset, slots, bases)
+    return Set(level, pattern, syndrome, chunk, offset, slots, bases, delay)
 
 
 def an_end(rng, images):

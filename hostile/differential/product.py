@@ -6,7 +6,7 @@ import itertools
 import math
 
 from arrays import held, unsound_rows
-from texts import FEWEST, FIVE, PATTERNS, REDUNDANCY, SIX, Set
+from texts import FEWEST, FIVE, PATTERNS, REDUNDANCY, SIX, Set, has_delay
 
 
 class SlotLists:
@@ -76,10 +76,10 @@ class Product:
         self.parts = len(plan.offsets) ** (self.images if plan.each else 1)
         self.shapes, self.lists = [], []
         lists = functools.lru_cache(None)(lambda members, missing: SlotLists(self.images, members, missing, plan.foreign))
-        for shape in itertools.product(plan.levels, plan.members, plan.patterns, plan.syndromes, plan.chunks):
-            level, members, pattern, syndrome, _ = shape
+        for shape in itertools.product(plan.levels, plan.members, plan.patterns, plan.delays, plan.syndromes, plan.chunks):
+            level, members, pattern, delay, syndrome, _ = shape
             patterns = {0: PATTERNS[:1], 5: FIVE, 6: SIX}[level]
-            if members >= FEWEST[level] and pattern in patterns and (syndrome != "none") == (level == 6):
+            if members >= FEWEST[level] and pattern in patterns and has_delay(pattern, delay) and (syndrome != "none") == (level == 6):
                 self.shapes.append(shape)
                 self.lists.append(lists(members, min(plan.missing, REDUNDANCY[level])))
         self.firsts = [0] + list(itertools.accumulate(self.parts * slots.count for slots in self.lists))
@@ -100,9 +100,9 @@ class Product:
 
     def set_at(self, rank):
         place, part, slots = self.places(rank)
-        level, _, pattern, syndrome, chunk = self.shapes[place]
+        level, _, pattern, delay, syndrome, chunk = self.shapes[place]
         bases = self.bases_at(part)
-        return Set(level, pattern, syndrome, chunk, bases[0], self.lists[place].at(slots), bases if self.plan.each else ())
+        return Set(level, pattern, syndrome, chunk, bases[0], self.lists[place].at(slots), bases if self.plan.each else (), delay)
 
     def rank_after(self, rank):
         """The first rank of another shape, offset or bases than this one's, where those leave no whole row, else None."""

@@ -14,12 +14,12 @@ import random
 import mirrors
 import relations
 import salvage
-from arrays import Row, Sums, cells, held, layout_name, turns, unsound_rows, volume_sector
+from arrays import Row, Sums, held, layout_name, row_cells, turns, unsound_rows, volume_sector
 from generated import array_images, put_file_system, volume_of
 from landmarks import first_blocks, groups_of, sightings
 from product import Product, page
 from texts import (LEVELS, LISTS, MOST, MOST_RELATED, PATTERNS, RANKS, SECTOR, SYNDROMES, USUAL_KINDS, Plan, Set, Stop, broken_bases,
-                   broken_rule, read_plan, read_sets, read_words)
+                   broken_delay, broken_rule, read_plan, read_sets, read_words)
 
 # Rows of `relations`: as many where no step is given, and the most.
 USUAL_ROWS, MOST_ROWS = 4096, 1048576
@@ -77,8 +77,8 @@ def follow(broken):
 
 
 def follow_rules(found, images, end, further=None):
-    """Goes on where a set breaks no rule. A further one comes before that of the bases."""
-    follow(broken_rule(found, images, end) or further and further() or broken_bases(found, images))
+    """Goes on where a set breaks no rule. A further one comes before those of the bases and the delay."""
+    follow(broken_rule(found, images, end) or further and further() or broken_bases(found, images) or broken_delay(found))
 
 
 def list_sets(given, text, images):
@@ -90,7 +90,7 @@ def list_sets(given, text, images):
             for rank, found in lines:
                 shown = {"chunk": found.chunk, "level": found.level, "name": layout_name(found),
                          "offset": list(found.bases) if found.bases else found.offset,
-                         "pattern": found.pattern, "rank": rank, "slots": list(found.slots), "syndrome": found.syndrome}
+                         "pattern": found.rotation(), "rank": rank, "slots": list(found.slots), "syndrome": found.syndrome}
                 out.append(json.dumps(shown, separators=(",", ":")))
             out.append(json.dumps({"next": first, "total": product.total}, separators=(",", ":")))
         else:
@@ -129,7 +129,7 @@ def map_sector(given, images):
         raise Stop(8, f"reraid: sector {sector} of {size}")
     chunk, inner = divmod(sector, found.chunk)
     row, item = divmod(chunk, found.data)
-    made = cells(found.level, found.pattern, found.members, row)
+    made = row_cells(found, row)
     slot = made.index(item)
     shown = [made.index(kind) if kind in made else "-" for kind in "PQ"]
     image = "-" if found.slots[slot] is None else found.slots[slot]
@@ -158,7 +158,7 @@ def rebuild(given, images):
 
 def asked_values(given, images, end):
     """What is asked for, with what is usual where it is not said."""
-    asked = {"levels": LEVELS, "members": [max(2, len(images))], "patterns": PATTERNS, "syndromes": SYNDROMES,
+    asked = {"levels": LEVELS, "members": [max(2, len(images))], "patterns": PATTERNS, "delays": [1], "syndromes": SYNDROMES,
              "chunks": [8 * 2 ** power for power in range(9)], "offsets": [0, 2048, 262144, 264192], "origins": [0, 2048],
              "missing": 0, "foreign": 0, "badrows": 0, "window": max(1, end), "misfits": 0, "least": 1}
     return {**asked, **{name: value for name, value in given.items() if name in LISTS}}
@@ -177,13 +177,13 @@ def sample(given):
     found, rows, marked = given["set"], given["rows"], given.get("marks") == "xfs"
     end, images, size = found.offset + rows * found.chunk, found.members - found.lost, rows * found.chunk * found.data
     follow(broken_rule(found, images, end) or (found.members * end > 2097152 and (10, found.members * end))
-           or (marked and size < 512 and (11, size)) or (found.bases and (12, len(found.bases))))
+           or (marked and size < 512 and (11, size)) or (found.bases and (12, len(found.bases))) or broken_delay(found))
     volume = volume_of(given["number"], size * SECTOR)
     if marked:
         put_file_system(volume, found.data)
     made = array_images(found, rows, volume)
     del volume
-    plan = survey_plan({"levels": [found.level], "missing": found.lost, "members": [found.members]}, made)
+    plan = survey_plan({"levels": [found.level], "missing": found.lost, "members": [found.members], "delays": [found.delay]}, made)
     product = Product(plan)
     followed_total(product)
     lines, after = page(plan, product, Sums(made), 0, 1000, RANKS - 1)
@@ -195,22 +195,44 @@ def sample(given):
 
 def classes(given, text):
     """Sets are alike where their whole volumes over random images are equal: bytes that were weighed otherwise differ in some of the
-    512 columns of a sector, but once in 2 to the power 4096. Of long images a row of chunks stands for one sector of it, and rows that
-    repeat for those of all layouts."""
+    512 columns of a sector, but once in 2 to the power 4096. Of long images a sector stands for a row of chunks, until both layouts
+    repeat."""
     found, end = read_sets(text, given["images"], given["end"]), given["end"]
-    rng, numbers, out = random.Random(len(text)), {}, []
+    rng, firsts, out = random.Random(len(text)), [], []
     if end <= 120:
-        shown = found
+        images = [rng.randbytes(120 * SECTOR) for _ in range(given["images"])]
+        told = [write({"set": one, "end": end}, images) for one in found]
     else:
-        repeat = math.lcm(*[turns(one.pattern, one.members) for one in found])
-        shown = [Set(one.level, one.pattern, one.syndrome, 1, 0, one.slots) for one in found]
-        ends = [min(one.rows(end), repeat) for one in found]
-    images = [rng.randbytes((120 if end <= 120 else max(ends, default=0)) * SECTOR) for _ in range(given["images"])]
+        images = [rng.randbytes(SECTOR) * MOST for _ in range(given["images"])]
+        told = [turned_rows(one, images) for one in found]
+
+    def alike(one, other):
+        return told[one] == told[other] if end <= 120 else are_alike(found[one], told[one], found[other], told[other], end)
+
     for place, one in enumerate(found):
-        made = write({"set": shown[place], "end": end if end <= 120 else ends[place]}, images)
-        number = numbers.setdefault((one.offset, one.chunk, one.data, made) if end > 120 else made, len(numbers))
+        number = next((number for number, first in enumerate(firsts) if alike(first, place)), len(firsts))
+        firsts += [place] if number == len(firsts) else []
         out.append(f"{number} {one.word()}\n")
-    return "".join([*out, f"classes {len(numbers)} of {len(found)}\n"]).encode()
+    return "".join([*out, f"classes {len(firsts)} of {len(found)}\n"]).encode()
+
+
+def turned_rows(found, images):
+    """A row of the volume in each turn until the layout repeats, over images whose sectors are all alike."""
+    shown, count = Set(found.level, found.pattern, found.syndrome, 1, 0, found.slots), turns(found.pattern, found.members)
+    volume, wide = write({"set": shown, "end": count}, images), found.data * SECTOR
+    return [volume[turn * wide:(turn + 1) * wide] for turn in range(count)]
+
+
+def are_alike(one, one_rows, other, other_rows, end):
+    """Whether two sets have equal rows until both layouts repeat. A row is as the one before it where the parity of both stays."""
+    if (one.offset, one.chunk, one.data) != (other.offset, other.chunk, other.data):
+        return False
+    row, stop = 0, min(one.rows(end), math.lcm(one.delay * len(one_rows), other.delay * len(other_rows)))
+    while row < stop:
+        if one_rows[one.turn(row) % len(one_rows)] != other_rows[other.turn(row) % len(other_rows)]:
+            return False
+        row = min((found.turn(row) + 1) * found.delay for found in (one, other))
+    return True
 
 
 def salvage_volume(given, text, images):

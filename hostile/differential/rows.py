@@ -41,8 +41,12 @@ def plan(lengths, version=1, groups="", **changed):
     """A plan of a RAID 5 with all members there, with what is changed."""
     values = {"end": min(lengths), "levels": 5, "members": 3, "patterns": "ls", "syndromes": "none", "chunks": 1, "offsets": 0,
               "origins": 0, "missing": 0, "foreign": 0, "badrows": 0, "window": max(1, min(lengths)), "misfits": 0, "least": 1, **changed}
+    delays = values.pop("delays", None)
     lines = [f"reraid-plan {version}", f"images {len(lengths)}", *(f"length {length}" for length in lengths)]
-    return "".join(f"{line}\n" for line in lines + [f"{name} {value}" for name, value in values.items()]) + groups + "done\n"
+    for name, value in values.items():
+        lines += [f"delays {delays}"] if name == "syndromes" and delays is not None else []
+        lines.append(f"{name} {value}")
+    return "".join(f"{line}\n" for line in lines) + groups + "done\n"
 
 
 # Landmark sectors
@@ -159,6 +163,77 @@ def rescue():
     row(f"salvage {word}", images, "x" * 4194305, status=3, line="rescue text is longer than 4194304 bytes")
     row("salvage set=5:ls:none:1:0+0:0,1,2", images, "map 5\n", status=9, line="rescue line 1 is not understood")
     row("salvage set=5:ls:none:1:0+0:0,1,2", images, status=7, line="set rule 12 value 2")
+
+
+# Delayed parity
+
+def delayed_rows():
+    """Rows 0 1 P, 0 1 P, 0 P 1 and 0 P 1, of sectors 01 to 80 of the volume."""
+    images, word = [sectors("01041040"), sectors("020830C0"), sectors("030C2080")], "set=5:la*2:none:1:0:0,1,2"
+    row(f"write {word}", images, out=sectors("0102040810204080"))
+    row("write set=5:la:none:1:0:0,1,2", images, out=sectors("0102040C302040C0"))
+    row(f"map {word} sector=3", images, out="row 1 item 1 slot 1 image 1 sector 1 p 2 q -\nname -\n")
+    row(f"map {word} sector=5", images, out="row 2 item 1 slot 2 image 2 sector 2 p 1 q -\nname -\n")
+    row("rebuild set=5:la*2:none:1:0:0,-,1 slot=1", [images[0], images[2]], out=sectors("020830C0"))
+    row("salvage set=5:la*2:none:1:0:0,-,1 form=lost", [images[0], images[2]], "map 1\n+\n0 1024 +\n1024 512 -\n1536 512 +\n",
+        "lost 5 1\ngood 7 of 8\n")
+    own = [sectors("0104104000"), sectors("00020830C0"), sectors("030C208000")]
+    row("write set=5:la*2:none:1:0+1+0:0,1,2", own, out=sectors("0102040810204080"))
+    # the delay stands behind the pattern in the order of sets, and parity that stays has no delay
+    text = plan([4] * 3, "3\nmode common", patterns="la,parity-last", delays="1,2")
+    row("list from=6 size=1", images, text, "6 5:la*2:none:1:0:0,1,2\nnext 7 of 18\n")
+    row("list from=12 size=1", images, text, "12 5:parity-last:none:1:0:0,1,2\nnext 13 of 18\n")
+    row("list from=6 size=1 form=json", images, text, '{"chunk":1,"level":5,"name":null,"offset":0,"pattern":"la*2","rank":6,"slots":[0,1,2],'
+        '"syndrome":"none"}\n{"next":7,"total":18}\n')
+    row(f"check {word}", images, text, "rank 6\nunsound 0 of 4\npass\n")
+    row("check set=5:la*3:none:1:0:0,1,2", images, text, "rank -\nunsound 0 of 4\npass\n")
+    both = [sectors(byte + byte) for byte in ("1C", "01", "80", "81")]
+    six = {"levels": 6, "members": 4, "patterns": "la", "syndromes": "after-q"}
+    row("list", both, plan([2] * 4, "3\nmode common", delays="1,2,3", **six),
+        "24 6:la*2:after-q:1:0:0,1,2,3\n48 6:la*3:after-q:1:0:0,1,2,3\nnext 72 of 72\n")
+    row("check set=6:la:after-q:1:0:0,1,2,3", both, plan([2] * 4, **six), "rank 0\nunsound 1 of 2\nfail\n")
+    row("check set=6:la*2:after-q:1:0:0,1,2,3", both, plan([2] * 4, **six), "rank -\nunsound 0 of 2\npass\n")
+    # four patterns have a delay: with nine chunks, four offsets and six orders of the images these are 864 sets
+    row("sample number=7 set=5:la*2:none:8:0:0,1,2 rows=2", out="images 3\nsectors 16\nmarks 0\ntotal 864\nfound yes\nnext 864 of 864\n")
+    refused_delays(images)
+    delayed_classes()
+
+
+def refused_delays(images):
+    for pattern, bases, rule, value in (("parity-last*2", "0", 13, 2), ("la*1025", "0", 13, 1025), ("la*1025", "0+0", 12, 2), ("la*1024", "4", 8, 4),
+                                        ("plain*2", "0", 2, 0)):
+        row(f"write set=5:{pattern}:none:1:{bases}:0,1,2", images, status=7, line=f"set rule {rule} value {value}")
+    row("rebuild set=5:la*1025:none:1:0:0,1,2 slot=1", images, status=7, line="set rule 9 value 1")
+    row("sample number=7 set=5:la*1025:none:8:0+0+0:0,1,2 rows=2", status=7, line="set rule 12 value 3")
+    row("sample number=7 set=5:la*1025:none:8:0:0,1,2 rows=2 marks=xfs", status=7, line="set rule 11 value 32")
+    row("sample number=7 set=5:la*1025:none:8:0:0,1,2 rows=2", status=7, line="set rule 13 value 1025")
+    for pattern in ("la*1", "la*0", "la*02", "la*", "la**2", "*2", "la*4294967296", "la*-2"):
+        row(f"write set=5:{pattern}:none:1:0:0,1,2", images, status=1, line="word 2 is not understood")
+    asked = {"levels": 5, "members": 3, "patterns": "la", "syndromes": "none", "chunks": 1, "offsets": 0}
+    words = "survey " + " ".join(f"{name}={value}" for name, value in asked.items()) + " origins=0"
+    for mode in ("common", "each"):
+        row(f"{words} mode={mode} delays=2,16", images, out=plan([4] * 3, f"3\nmode {mode}", delays="2,16", **asked))
+    row(f"{words} delays=1", images, out=plan([4] * 3, **asked))
+    for delays in ("", "0", "1025", "16,2", "2,2", "01", ",".join(map(str, range(1, 18)))):
+        row(f"survey delays={delays}", images, status=1, line="word 2 is not understood")
+    row("mirrors delays=1", images, status=1, line="word 2 is not understood")
+    for version, delays, place in ((1, "2", 10), (2, "2", 10), ("3\nmode common", "1", 11), ("3\nmode each", "1,1025", 11), ("3\nmode common", "2,1", 11)):
+        row("list", images, plan([4] * 3, version, delays=delays), status=2, line=f"plan line {place} is not understood")
+    twice = plan([4] * 3, "3\nmode common", delays="2").replace("delays 2\n", "delays 2\ndelays 2\n")
+    row("list", images, twice, status=2, line="plan line 12 is not understood")
+    early = plan([4] * 3, "3\nmode common").replace("patterns ls\n", "delays 2\npatterns ls\n")
+    row("list", images, early, status=2, line="plan line 10 is not understood")
+
+
+def delayed_classes():
+    """Delays are alike as far as the parity of neither has moved."""
+    for one, other, rows, classes in (("la", "la*2", 1, 1), ("la", "la*2", 2, 2), ("la*2", "la*3", 2, 1), ("la*2", "la*3", 3, 2), ("la*16", "la*1024", 16, 1),
+                                      ("la*16", "la*1024", 17, 2), ("la*1023", "ls*1024", 1023, 1), ("la*1023", "ls*1024", 1024, 2),
+                                      ("la*1024", "la*1024", 10 ** 6, 1), ("la*1023", "la*1024", 10 ** 6, 2)):
+        lines = [f"{pattern}:none:1:0:0,1,2\n" for pattern in (one, other)]
+        row(f"classes images=3 end={rows}", text="".join(f"{place} 5:{line}" for place, line in enumerate(lines)),
+            out=f"0 5:{lines[0]}{classes - 1} 5:{lines[1]}classes {classes} of 2\n")
+    row("classes images=3 end=4", text="0 5:parity-last*2:none:1:0:0,1,2\n", status=13, line="set line 1 is not understood")
 
 
 # Copies next to each other
@@ -525,7 +600,7 @@ def differs(words, images, text, out, status, line, ends):
 
 
 def main():
-    for rows in (earlier, inodes, own_bounds, own_offsets, large_blocks, rescue, near, copies, file_systems, relations):
+    for rows in (earlier, inodes, own_bounds, own_offsets, delayed_rows, large_blocks, rescue, near, copies, file_systems, relations):
         rows()
     differing = 0
     for words, *rest in ROWS:

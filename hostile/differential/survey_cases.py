@@ -154,7 +154,10 @@ def survey_operands(rng, images):
     shortest = min(len(image) // SECTOR for image in images) if images else 0
     choices = {
         "levels": lambda: rng.choice(["0", "5", "6", "0,5", "5,6"]), "members": lambda: rng.choice(["2", "3", "2,16", f"17,{MOST}", "4,5,6"]),
-        "patterns": lambda: rng.choice(["plain", "ls,rs", "parity-first-6"]), "syndromes": lambda: rng.choice(["none", "after-q,by-slot"]),
+        "patterns": lambda: rng.choice(["plain", "ls,rs", "parity-first-6"]),
+        "delays": lambda: rng.choice(["1", "16", "1,16", "1,16", "2,4,1024", "1,1025", "16,1",
+                                      ",".join(str(n) for n in range(1, rng.choice([17, 18])))]),
+        "syndromes": lambda: rng.choice(["none", "after-q,by-slot"]),
         "chunks": lambda: rng.choice(["1", "8,16", "32768", ",".join(str(2 ** power) for power in range(16))]),
         "offsets": lambda: ",".join(str(n) for n in sorted(rng.sample([0, 1, 2, 3, 10, shortest, shortest + 1, FAR - 1], 2) + [5])
                                     ) if rng.random() < 0.9 else ",".join(str(n) for n in range(64)),

@@ -22,6 +22,8 @@ MARKS_OF = {"gpt": ["gpt"], "ntfs": ["boot", "record"], "xfs": ["super", "agf", 
 LAYOUTS = [f"{kind}{copies}" for kind in ("near", "far", "offset") for copies in (2, 3, 4)]
 FIVE = PATTERNS[1:7]
 SIX = PATTERNS[1:]
+STAYING = ["plain", "parity-first", "parity-last", "parity-first-6"]  # parity moves in no row
+LONGEST_DELAY = 1024
 REDUNDANCY = {0: 0, 5: 1, 6: 2}
 FEWEST = {0: 2, 5: 3, 6: 4}
 
@@ -76,6 +78,7 @@ LISTS = {
     "levels": lambda text: rising(text, lambda part: int(part) if part in ("0", "5", "6") else None),
     "members": numbers(2, MOST),
     "patterns": named(PATTERNS),
+    "delays": numbers(1, LONGEST_DELAY, 16),
     "syndromes": named(SYNDROMES),
     "chunks": numbers(1, 32768, 16, lambda n: n & (n - 1) == 0),
     "offsets": numbers(0, FAR - 1, 64),
@@ -90,6 +93,8 @@ LISTS = {
 # What else a list or number has to be where each image has an offset of its own
 MOVABLE = {"offsets": numbers(0, MOVED - 1, 64), "foreign": one(0, 0)}
 CHUNKS = [2 ** power for power in range(16)]
+# The lines of a plan, but for that of delays, which stands after the patterns where there are others than 1
+ORDER = "levels members patterns syndromes chunks offsets origins missing foreign badrows window misfits least".split()
 
 
 class Array:
@@ -113,18 +118,26 @@ class Array:
 class Set(Array):
     """A parameter set. Where each image has an offset of its own, these are its bases, and its offset is the greatest of them."""
 
-    def __init__(self, level, pattern, syndrome, chunk, offset, slots, bases=()):
+    def __init__(self, level, pattern, syndrome, chunk, offset, slots, bases=(), delay=1):
         super().__init__(chunk, max(bases, default=offset), slots)
-        self.level, self.pattern, self.syndrome, self.bases = level, pattern, syndrome, tuple(bases)
+        self.level, self.pattern, self.syndrome, self.bases, self.delay = level, pattern, syndrome, tuple(bases), delay
         self.data = self.members - REDUNDANCY[level]
 
     def like(self, **changed):
         """The set with what is changed in it."""
-        names = ("level", "pattern", "syndrome", "chunk", "offset", "slots", "bases")
+        names = ("level", "pattern", "syndrome", "chunk", "offset", "slots", "bases", "delay")
         return Set(**{**{name: getattr(self, name) for name in names}, **changed})
 
     def shape(self):
-        return (self.level, self.members, self.pattern, self.syndrome, self.chunk)
+        return (self.level, self.members, self.pattern, self.delay, self.syndrome, self.chunk)
+
+    def rotation(self):
+        """The pattern, and where parity stays for more than a row for how many."""
+        return self.pattern if self.delay == 1 else f"{self.pattern}*{self.delay}"
+
+    def turn(self, row):
+        """How often the parity has moved before a row."""
+        return row // self.delay
 
     def base(self, image):
         """The sector of an image at which its data begin."""
@@ -132,7 +145,7 @@ class Set(Array):
 
     def word(self):
         offset = "+".join(str(base) for base in self.bases or [self.offset])
-        return f"{self.level}:{self.pattern}:{self.syndrome}:{self.chunk}:{offset}:{self.slot_words()}"
+        return f"{self.level}:{self.rotation()}:{self.syndrome}:{self.chunk}:{offset}:{self.slot_words()}"
 
 
 class Mirror(Array):
@@ -157,15 +170,23 @@ def slots_word(text):
     return None if None in slots or len(slots) > MOST else [None if slot == -1 else slot for slot in slots]
 
 
+def rotation_word(text):
+    """A pattern, and for how many rows parity stays."""
+    pattern, mark, rows = text.partition("*")
+    delay = number(rows, 2, 2 ** 32 - 1) if mark else 1
+    return (pattern, delay) if pattern in PATTERNS and delay is not None else None
+
+
 def set_word(text):
     parts = text.split(":")
-    if len(parts) != 6 or parts[0] not in ("0", "5", "6") or parts[1] not in PATTERNS or parts[2] not in SYNDROMES:
+    if len(parts) != 6 or parts[0] not in ("0", "5", "6") or rotation_word(parts[1]) is None or parts[2] not in SYNDROMES:
         return None
+    pattern, delay = rotation_word(parts[1])
     bases = [number(part, 0, MOVED - 1 if "+" in parts[4] else FAR - 1) for part in parts[4].split("+")]
     chunk, slots = number(parts[3], 0, 2 ** 32 - 1), slots_word(parts[5])
     if chunk is None or None in bases or len(bases) > MOST or slots is None:
         return None
-    return Set(int(parts[0]), parts[1], parts[2], chunk, bases[0], slots, bases if len(bases) > 1 else ())
+    return Set(int(parts[0]), pattern, parts[2], chunk, bases[0], slots, bases if len(bases) > 1 else (), delay)
 
 
 def mirror_word(text):
@@ -189,8 +210,18 @@ def broken_bases(found, images):
     return None
 
 
+def has_delay(pattern, delay):
+    """Whether the parity of a pattern may stay for so many rows."""
+    return delay == 1 or pattern not in STAYING and 1 <= delay <= LONGEST_DELAY
+
+
+def broken_delay(found):
+    """Rule 13 and its value, where the parity of a set stays for more rows than it may."""
+    return None if has_delay(found.pattern, found.delay) else (13, found.delay)
+
+
 def broken_rule(found, images, end):
-    """The first of the rules of all commands that a set breaks, but for that of its bases, and its value."""
+    """The first of the rules of all commands that a set breaks, but for those of its bases and its delay, and its value."""
     patterns = {0: PATTERNS[:1], 5: FIVE, 6: SIX}[found.level]
     syndromes = SYNDROMES[1:] if found.level == 6 else SYNDROMES[:1]
     absent, again = strange_images(found, images)
@@ -298,7 +329,7 @@ def read_sets(data, images, end):
         if not last and len(parts) == 4 and parts[0] == "next" and parts[2] == "of" and None not in (ranks(parts[1]), ranks(parts[3])):
             continue
         made = set_word(parts[1]) if not last and len(parts) == 2 and ranks(parts[0]) is not None else None
-        if made is None or made.bases or broken_rule(made, images, end) or len(found) == MOST_SETS:
+        if made is None or made.bases or broken_rule(made, images, end) or broken_delay(made) or len(found) == MOST_SETS:
             raise Stop(13, f"reraid: set line {place} is not understood")
         found.append(made)
     raise AssertionError
@@ -324,21 +355,22 @@ class Group(NamedTuple):
 class Plan:
     """A plan: its lists and numbers by their names, its groups, and whether each image has an offset of its own."""
 
-    third = False  # written as version 3 also where no group has bounds, which is no plan
+    third = False  # written as version 3 also where no group has bounds and all delays are 1, which is no plan
 
     def __init__(self, lengths, end, given, groups, each=False):
-        self.lengths, self.end, self.groups, self.each = lengths, end, groups, each
-        for name in LISTS:
+        self.lengths, self.end, self.groups, self.each, self.delays = lengths, end, groups, each, given.get("delays", [1])
+        for name in ORDER:
             setattr(self, name, given[name])
 
     def text(self):
         def shown(value):
             return ",".join(str(part) for part in value) if isinstance(value, list) else str(value)
         lines = [f"reraid-plan {2 if self.each else 1}"]
-        if self.third or any(group.bounds for group in self.groups):
+        delayed = self.delays != [1]
+        if self.third or delayed or any(group.bounds for group in self.groups):
             lines = ["reraid-plan 3", f"mode {'each' if self.each else 'common'}"]
         lines += [f"images {len(self.lengths)}", *(f"length {length}" for length in self.lengths), f"end {self.end}"]
-        order = "levels members patterns syndromes chunks offsets origins missing foreign badrows window misfits least".split()
+        order = [*ORDER[:3], "delays", *ORDER[3:]] if delayed else ORDER
         lines += [f"{name} {shown(getattr(self, name))}" for name in order]
         for group in self.groups:
             lines.append(f"group {group.kind}")
@@ -387,16 +419,19 @@ def read_plan(data):
     each = (value("mode", either("common", "each")) if third else first) in ("each", "reraid-plan 2")
     lengths = [value("length", one(0, (MOVED if each else FAR) - 1)) for _ in range(value("images", one(1, MOST)))]
     end = value("end", one(0, min(lengths)))
-    order = "levels members patterns syndromes chunks offsets origins missing foreign badrows window misfits least".split()
-    given = {name: value(name, MOVABLE.get(name, LISTS[name]) if each else LISTS[name]) for name in order}
+    given = {}
+    for name in ORDER:
+        if name == "syndromes" and third and lines[place:place + 1] and lines[place].split(" ")[0] == "delays":
+            given["delays"] = value("delays", lambda text: None if text == "1" else LISTS["delays"](text))
+        given[name] = value(name, MOVABLE.get(name, LISTS[name]) if each else LISTS[name])
     groups, seen, free = [], {kind: 0 for kinds in MARKS_OF.values() for kind in kinds}, False
 
     def may_begin(kind):
         before = [group.kind for group in groups]
         return (not before or KINDS.index(before[-1]) <= KINDS.index(kind)) and before.count(kind) < (1 if kind == "gpt" else 32)
 
-    def lacks_bounds():
-        return third and all(group.bounds is None for group in groups)
+    def lacks_reason():
+        return third and "delays" not in given and all(group.bounds is None for group in groups)
 
     while (text := line()) != "done":
         parts = text.split(" ")
@@ -418,14 +453,14 @@ def read_plan(data):
                 refuse()
             if marks and (marks[-1].sector, marks[-1].image) >= (sector, image):
                 refuse()
-            if lacks_bounds() and not any(may_begin(kind) for kind in KINDS):
+            if lacks_reason() and not any(may_begin(kind) for kind in KINDS):
                 refuse()
             seen[parts[1]] += 1
             marks.append(Mark(parts[1], image, sector, parts[4]))
             free = False
         else:
             refuse()
-    if lacks_bounds():
+    if lacks_reason():
         refuse()
     place += 1
     if place < len(lines) or lines[-1] != "":

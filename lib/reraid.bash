@@ -114,6 +114,7 @@ _reraid_expects() {
         levels) echo "levels of 0,5,6, rising; RAID 4 is 5 with patterns=parity-last, RAID 10 the command mirrors" ;;
         members) echo "numbers from 2 to 24, rising, lost disks too" ;;
         patterns) echo "patterns in this order: plain,la,ra,ls,rs,parity-first,parity-last,n-restart,n-continue,la-6,ra-6,ls-6,rs-6,parity-first-6" ;;
+        delays) echo "numbers from 1 to 1024, rising: the rows for which parity stays; 16 with most Smart Array controllers" ;;
         syndromes) echo "orders of Q in this order: none,after-q,by-data,by-slot" ;;
         layouts) echo "layouts in this order: near2,near3,near4,far2,far3,far4,offset2,offset3,offset4" ;;
         chunks) echo "powers of two from 1 to 32768, rising, in sectors of 512 bytes: 128 for 64 KiB" ;;
@@ -145,6 +146,7 @@ _reraid_value() {
         members) _reraid_list "$before" "$3" {2..24} ;;
         patterns) _reraid_list "$before" "$3" plain la ra ls rs parity-first parity-last n-restart n-continue la-6 ra-6 ls-6 rs-6 \
             parity-first-6 ;;
+        delays) _reraid_list "$before" "$3" 1 2 4 8 16 32 64 ;;
         syndromes) _reraid_list "$before" "$3" none after-q by-data by-slot ;;
         layouts) _reraid_list "$before" "$3" {near,far,offset}{2,3,4} ;;
         chunks) _reraid_list "$before" "$3" 8 16 32 64 128 256 512 1024 2048 ;;
@@ -187,8 +189,8 @@ _reraid() {
         return
     fi
     case ${words[1]} in
-        survey) _reraid_operands survey levels members patterns syndromes chunks offsets origins missing foreign badrows misfits least window \
-            end kinds mode logical drop ;;
+        survey) _reraid_operands survey levels members patterns delays syndromes chunks offsets origins missing foreign badrows misfits least \
+            window end kinds mode logical drop ;;
         list) _reraid_operands list from size span pages form ;;
         check) _reraid_operands check set ;;
         map) _reraid_operands map set sector end ;;

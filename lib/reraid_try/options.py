@@ -16,6 +16,8 @@ UNITS = {"K": units.KIB, "M": units.MIB, "G": units.GIB, "T": units.TIB}
 LEVELS = ("0", "5", "6", "10")
 LEAST_MEMBERS = 2
 LEAST_FIRST, USUAL_FIRST, USUAL_SECONDS = units.MIB, 16 * units.GIB, 60
+# A question takes this part of the time of a trial at most, and so many seconds at least.
+PART, LEAST_SECONDS = 6, 5
 
 ABOUT = """\
 From images of the disks of a lost array to its candidates. It looks at the images, surveys them for landmarks, takes hints from these,
@@ -28,10 +30,10 @@ STATUSES = "status: 0 where a candidate has + or ++, 1 where none has, 2 where t
 
 @dataclasses.dataclass(frozen=True)
 class Options:
-    """What is asked for. `first` is how many bytes of each image are read, `seconds` how long a trial may take, `members` the numbers of members
-    that are tried, None where hints say them, `report` the file of the page, `hashes` whether digests are taken, `raw` whether images in
-    containers are searched as they are, `resume` the file that keeps what was answered, `opened` the containers that were opened, `every` after how
-    many seconds a line says what is at work."""
+    """What is asked for. `first` is how many bytes of each image are read, `seconds` how long a trial may take, `question` how long a question,
+    where that is not the usual part of it, `members` the numbers of members that are tried, None where hints say them, `report` the file of the
+    page, `hashes` whether digests are taken, `raw` whether images in containers are searched as they are, `resume` the file that keeps what was
+    answered, `opened` the containers that were opened, `every` after how many seconds a line says what is at work."""
 
     images: tuple[str, ...]
     as_json: bool = False
@@ -49,6 +51,12 @@ class Options:
     resume: str | None = None
     opened: tuple[Opened, ...] = ()
     every: int = MINUTE
+    question: int | None = None
+
+    @property
+    def question_seconds(self) -> int:
+        """How long a question may take."""
+        return self.question or max(LEAST_SECONDS, self.seconds // PART)
 
     def wants(self, level: str) -> bool:
         """This level is to be tried."""

@@ -36,6 +36,23 @@ def number(name: str, text: str) -> list[str]:
     return [f"{text or 'nothing'}: {name} is a decimal number, in sectors of 512 bytes{more}"]
 
 
+def counted(name: str, item: str) -> list[str]:
+    """What is wrong with an element of a list of numbers; those of members and of rows are no sectors."""
+    if name == "delays" and not (item.isascii() and item.isdigit()):
+        return [f"{item or 'nothing'}: delays are numbers of rows, from 1 to 1024"]
+    return number(f"each of {name}" if name != "members" else name, item)
+
+
+def rotation(level: str, text: str) -> list[str]:
+    """What is wrong with the pattern of a set word and the delay behind it."""
+    pattern, star, delay = text.partition("*")
+    if pattern not in BY_LEVEL[level]:
+        return [f"{pattern}{meant(pattern, BY_LEVEL[level])}: the pattern at level {level} is one of {','.join(BY_LEVEL[level])}"]
+    if star and not (delay.isascii() and delay.isdigit() and delay == str(int(delay)) and 2 <= int(delay) < 1 << 32):
+        return [f"{text}: behind * stands for how many rows parity stays, from 2 on; {pattern} alone where that is one"]
+    return []
+
+
 def rising(name: str, items: list[str], order: Sequence[str] | None) -> list[str]:
     """What is wrong with the order of a list whose elements are right."""
     ranked = sorted(set(items), key=list(order).index) if order else sorted(set(items), key=int)
@@ -52,9 +69,11 @@ def listed(name: str, value: str) -> list[str]:
             return ["levels are 0, 5 and 6; for RAID 10 there are reraid mirrors and reraid mirrorwrite"]
         said = [f"{item or 'nothing'}{meant(item, names)}: {name} are {','.join(names)}, in this order" for item in wrong[:1]]
         return said or rising(name, items, names)
-    said = [line for item in items for line in number(f"each of {name}" if name != "members" else name, item)][:1]
+    said = [line for item in items for line in counted(name, item)][:1]
     if not said and name == "chunks" and any(int(item) & (int(item) - 1) or not 1 <= int(item) <= 32768 for item in items):
         return ["chunks are powers of two from 1 to 32768, in sectors of 512 bytes: 128 for 64 KiB, 1024 for 512 KiB"]
+    if not said and name == "delays" and (len(items) > 16 or not all(1 <= int(item) <= 1024 for item in items)):
+        return ["delays are at most 16 numbers from 1 to 1024: the rows for which parity stays, 1 but for some controllers"]
     if not said and name == "members" and not all(2 <= int(item) <= 24 for item in items):
         return ["members are numbers from 2 to 24, lost disks too"]
     return said or rising(name, items, None)
@@ -78,8 +97,8 @@ def set_word(value: str, mirrors: bool) -> list[str]:
         return [f"a set is {SHAPE}" + (f", or {MIRROR}" if mirrors else "")]
     else:
         level, pattern, order, chunk, offset, slots = parts
-        if pattern not in BY_LEVEL[level]:
-            return [f"{pattern}{meant(pattern, BY_LEVEL[level])}: the pattern at level {level} is one of {','.join(BY_LEVEL[level])}"]
+        if rotation(level, pattern):
+            return rotation(level, pattern)
         orders = SYNDROMES[1:] if level == "6" else SYNDROMES[:1]
         if order not in orders:
             return [f"{order or 'nothing'}: the order of Q at level {level} is {' or '.join(orders)}"]

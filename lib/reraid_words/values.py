@@ -4,8 +4,8 @@ import re
 
 COMMANDS = ("survey", "list", "check", "map", "write", "rebuild", "sample", "classes", "mirrors", "mirrorwrite", "salvage",
             "relations")
-SURVEY = ("levels", "members", "patterns", "syndromes", "chunks", "offsets", "origins", "missing", "foreign", "badrows", "misfits", "least", "window",
-          "end", "kinds", "mode", "logical", "drop")
+SURVEY = ("levels", "members", "patterns", "delays", "syndromes", "chunks", "offsets", "origins", "missing", "foreign", "badrows", "misfits", "least",
+          "window", "end", "kinds", "mode", "logical", "drop")
 OPERANDS = {
     "survey": SURVEY, "list": ("from", "size", "span", "pages", "form"), "check": ("set",), "map": ("set", "sector", "end"),
     "write": ("set", "end"), "rebuild": ("set", "slot", "end"), "sample": ("number", "set", "rows", "marks"), "classes": ("images", "end"),
@@ -20,7 +20,7 @@ LAYOUTS = tuple(f"{kind}{copies}" for kind in ("near", "far", "offset") for copi
 KINDS = ("gpt", "ntfs", "xfs", "btrfs", "lvm", "ext", "xfs5")
 NAMES = {"levels": ("0", "5", "6"), "patterns": PATTERNS, "syndromes": SYNDROMES, "layouts": LAYOUTS, "kinds": KINDS, "mode": ("common", "each"),
          "logical": ("512", "4096"), "form": ("text", "json", "data", "lost"), "marks": ("none", "xfs")}
-NUMBERS = ("members", "chunks", "offsets", "origins")
+NUMBERS = ("members", "delays", "chunks", "offsets", "origins")
 # Other names, mostly those of mdadm, and ours.
 OTHERS = {
     "left-asymmetric": "la", "right-asymmetric": "ra", "left-symmetric": "ls", "right-symmetric": "rs", "parity-0": "parity-first",
@@ -32,7 +32,7 @@ OTHERS = {
 OTHER_OPERANDS = {"level": "levels", "raid-devices": "members", "disks": "members", "drives": "members", "layout": "patterns",
                   "layouts": "patterns", "pattern": "patterns", "algorithm": "patterns", "chunk": "chunks", "offset": "offsets",
                   "data-offset": "offsets", "lost": "missing", "degraded": "missing", "kind": "kinds", "syndrome": "syndromes", "order": "syndromes",
-                  "skip": "drop", "sets": "set", "start": "from"}
+                  "skip": "drop", "sets": "set", "start": "from", "delay": "delays", "parity-delay": "delays", "rotation": "delays"}
 BY_LEVEL = {"0": ("plain",), "5": ("la", "ra", "ls", "rs", "parity-first", "parity-last"), "6": PATTERNS[1:]}
 UNITS = {"k": 2, "kb": 2, "kib": 2, "m": 2048, "mb": 2048, "mib": 2048, "g": 2097152, "gb": 2097152, "gib": 2097152}
 

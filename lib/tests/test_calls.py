@@ -37,6 +37,19 @@ class Sets(unittest.TestCase):
         self.assertEqual((word.offsets, word.offset, word.slots), ((2048, 0, 2048), 2048, (3, 0, None, 2)))
         self.assertEqual((word.data, word.row, word.lost, word.spare, word.images), (2, 256, 1, 1, (3, 0, 2)))
 
+    def test_parity_that_stays(self) -> None:
+        """A pattern may say for how many rows; what is made of such a set has the same."""
+        word, plain = read_word("5:la*16:none:128:2048:3,0,-,2"), read_word("5:la:none:128:2048:0,1,2")
+        self.assertEqual([(it.pattern, it.rotation, it.delay) for it in (word, plain)], [("la*16", "la", 16), ("la", "la", 1)])
+        self.assertEqual((read_word("near2:8:0:0,1").rotation, read_word("near2:8:0:0,1").delay), ("", 1))
+        self.assertEqual(word.without(frozenset({0})).text, "5:la*16:none:128:2048:3,-,-,2")
+        self.assertEqual([sets.staying("la", delay) for delay in (1, 2)], ["la", "la*2"])
+        for text, found in (("6:ls-6*16:after-q:8:0:0,-,1,2,-", "5:ls*16:none:8:0:0,-,1,2"),
+                            ("6:ls-6*16:after-q:8:0:0,1,2,3", "6:ls-6*16:after-q:8:0:0,1,2,3"),
+                            ("6:rs*16:by-data:8:0:0,-,1,2", "6:rs*16:after-q:8:0:0,-,1,2"),
+                            ("6:la*16:by-data:8:0:0,-,1,2", "6:la*16:by-data:8:0:0,-,1,2")):
+            self.assertEqual(simplest(read_word(text)).text, found)
+
     def test_levels_survive_what_they_do(self) -> None:
         spare = [read_word(text).spare for text in ("0:plain:none:8:0:0,1", "5:la:none:8:0:0,1,2", "5:la:none:8:0:0,1,-", "6:la:by-data:8:0:0,1,2,3")]
         self.assertEqual(spare, [0, 1, 0, 2])
@@ -121,6 +134,19 @@ class Plans(unittest.TestCase):
         self.assertEqual(each.text(), text.replace("mode common", "mode each"))
         self.assertEqual((read_plan(each.text()), each.bounded(1, None).text()), (each, PLAN.replace("reraid-plan 1", "reraid-plan 2")))
 
+    def test_delays(self) -> None:
+        """For how many rows parity stays has a line behind the patterns, in version 3, where it is not one row alone."""
+        text = PLAN.replace("reraid-plan 1\n", "reraid-plan 3\nmode common\n").replace("\nsyndromes", "\ndelays 1,16\nsyndromes")
+        plan = read_plan(text)
+        self.assertEqual((plan.text(), plan.values["delays"], plan.version), (text, "1,16", plans.COMMON))
+        self.assertEqual(read_plan(PLAN).having(delays="1,16"), plan)
+        self.assertEqual((read_plan(PLAN).having(delays=1).text(), plan.having(delays=1).text()), (PLAN, PLAN))
+        self.assertEqual(read_plan(PLAN).having(delays=16).text(), text.replace("1,16", "16"))
+        each = dataclasses.replace(plan, version=plans.EACH)
+        self.assertEqual((each.text(), read_plan(each.text())), (text.replace("mode common", "mode each"), each))
+        both = plan.bounded(1, Bounds(4096, 17))
+        self.assertEqual((both.text(), read_plan(both.text())), (text.replace("group ext\n", "group ext\nbounds 4096 17\n"), both))
+
     def test_wrong_versions(self) -> None:
         for text in (PLAN.replace("reraid-plan 1\n", "reraid-plan 3\n"), PLAN.replace("reraid-plan 1\n", "reraid-plan 3\nmode other\n"),
                      PLAN.replace("group ext\n", "group ext\nbounds 1\n"), PLAN.replace("group ext\n", "group ext\nbounds a b\n")):
@@ -147,6 +173,8 @@ class Plans(unittest.TestCase):
 
 class Formats(unittest.TestCase):
     def test_page(self) -> None:
+        delayed = formats.read_page(put("7 5:la*16:none:128:2048:0,1,2\nnext 20 of 60\n"))
+        self.assertEqual((delayed.sets[0].text, delayed.sets[0].line()), ("5:la*16:none:128:2048:0,1,2", "7 5:la*16:none:128:2048:0,1,2\n"))
         page = formats.read_page(put("7 5:ls:none:128:2048:0,1,2\n9 near2:8:0:0,1\nnext 20 of 60\n"))
         self.assertEqual(page.sets, (Ranked(7, "5:ls:none:128:2048:0,1,2"), Ranked(9, "near2:8:0:0,1")))
         self.assertEqual((page.following, page.total, page.late, page.estimate), (20, 60, False, 6))
@@ -242,6 +270,10 @@ class Surveyed(unittest.TestCase):
         plan = self.surveys.plan(self.request.having(levels="5,6", badrows=9, mode="each", end=50000))
         self.assertEqual((plan.values["levels"], plan.values["badrows"], plan.version, plan.end), ("5,6", "9", 2, 50000))
         self.assertEqual((plan.values["origins"], plan.values["window"]), ("0,63,2048", "50000"))
+        count = self.standin.count("reraid survey")
+        plan = self.surveys.plan(self.request.having(delays="1,16", end=50000))
+        self.assertEqual((plan.values["delays"], plan.text().splitlines()[0]), ("1,16", "reraid-plan 3"))
+        self.assertEqual(self.standin.count("reraid survey"), count)
 
     def test_groups_and_records_left_out(self) -> None:
         records = "group ntfs\n" + "".join(f"mark record 0 {k} at:6\n" for k in range(3000, 3005)) + "mark record 0 3005 at:8\ngroup ext\n"

@@ -229,6 +229,13 @@ class Kin(unittest.TestCase):
         self.assertEqual(self.inside("5:rs:none:8:0:0,1,2", "5:rs:none:8:8:1,2,0"), [None, Inside(0, 1)])
         self.assertEqual(self.inside("5:ls:none:8:0:0,1,2", "5:ls:none:8:8:0,1,2"), [None, None])
         self.assertEqual(self.inside("5:la:none:8:0:0,1,2", "5:la:none:8:24:0,1,2"), [None, Inside(0, 3)])
+        # Parity that stays for four rows moves every four rows.
+        self.assertEqual(self.inside("5:ls*4:none:8:0:0,1,2", "5:ls*4:none:8:32:2,0,1"), [None, Inside(0, 4)])
+        self.assertEqual(self.inside("5:ls*4:none:8:0:0,1,2", "5:ls*4:none:8:8:2,0,1"), [None, None])
+        self.assertEqual(self.inside("5:la*4:none:8:0:0,1,2", "5:la*4:none:8:96:0,1,2"), [None, Inside(0, 12)])
+        self.assertEqual(self.inside("5:la*4:none:8:0:0,1,2", "5:la*4:none:8:24:0,1,2"), [None, None])
+        self.assertEqual(self.inside("6:la-6*4:after-q:8:0:0,1,2,3", "6:la-6*4:after-q:8:96:0,1,2,3"), [None, Inside(0, 12)])
+        self.assertEqual(self.inside("5:la*4:none:8:0:0,1,2", "5:la:none:8:96:0,1,2"), [None, None])
         self.assertEqual(self.inside("5:la:none:8:0:0,1,2", "5:la:none:8:8:0,1,2"), [None, None])
         self.assertEqual(self.inside("6:ls:by-slot:8:0:0,1,2,3", "6:ls:by-slot:8:8:3,0,1,2"), [None, None])
         self.assertEqual(self.inside("6:ls-6:after-q:8:0:0,1,2,3", "6:ls-6:after-q:8:24:0,1,2,3"), [None, Inside(0, 3)])
@@ -380,7 +387,7 @@ class OfRows(unittest.TestCase):
         hunt = hunt_of(self.unsound(600, 601, 700))
         found = Rows(hunt).old(candidate("6:ls:by-data:128:2048:0,-,1,2"))
         self.assertEqual([it.text(["a", "b", "c", "d.img"]) for it in found],
-                         ["d.img is old or damaged: as slot 1 parity holds with it in all rows but 3 of 1000, the first of them row 600"])
+                         ["d.img is old or damaged from row 600 on: as slot 1 parity holds with it in all rows but 3 of 1000"])
         asked = cast(OfPlan, hunt).standin.asked[0][0]
         self.assertIn("set=6:ls:by-data:128:2048:0,3,1,2", asked)
         self.assertEqual(Rows(hunt).old(candidate("6:ls:by-data:128:2048:0,3,1,2")), [])
@@ -395,8 +402,7 @@ class OfRows(unittest.TestCase):
             images = tuple(Image(f"i{k}", k, 8000, last=7000 if k == 3 else last) for k in range(4))
             setattr(hunt, "evidence", types.SimpleNamespace(images=images, filled=1000, window=8000, end=8000))
             found = Rows(hunt).old(candidate("6:ls:by-data:128:2048:0,-,1,2"))
-            said = "the first of them row 600; perhaps it was being rebuilt, up to there"
-            self.assertEqual([it.text("abcd").endswith(said) for it in found], [end])
+            self.assertEqual([it.text("abcd").endswith("of 1000; perhaps it was being rebuilt, up to there") for it in found], [end])
         self.assertNotIn("rebuilt", rows.Old(3, 1, Checked(3, 1000), Bounds(0, 900), True).text("abcd"))
 
     def test_reshape(self) -> None:
@@ -595,6 +601,10 @@ class Printed(unittest.TestCase):
         self.assertEqual(words.in_words(read_word("6:ls-6:by-data:1:0:0,1,2,3"), names),
                          "RAID 6 of 4 disks, left-symmetric-6 (Q on the last slot), Q by the number of the data, chunks of 512 bytes, "
                          "data from sector 0; slots: a.img b.img c.img d.img; in no slot: none; missing: none")
+        self.assertEqual(words.layout(read_word("5:la*16:none:128:0:0,1,2,3")),
+                         "RAID 5 of 4 disks, left-asymmetric, parity stays for 16 rows (delayed parity, as of Smart Array controllers)")
+        self.assertEqual(words.layout(read_word("6:ls-6*2:after-q:128:0:0,1,2,3")), "RAID 6 of 4 disks, left-symmetric-6 (Q on the last slot), "
+                         "parity stays for 2 rows (delayed parity, as of Smart Array controllers)")
         self.assertEqual(words.in_words(read_word("0:plain:none:8:7+9:1,0"), ["u/a", "v/a"]),
                          "RAID 0 of 2 disks, chunks of 4 KiB, data from sector 7 of u/a, 9 of v/a; slots: v/a u/a; in no slot: none; missing: none")
 

@@ -10,7 +10,7 @@ from reraid_try.calls.commands import Answer
 from reraid_try.calls.formats import Checked, Held
 from reraid_try.calls.plans import Plan
 from reraid_try.calls.surveys import Request
-from reraid_try.checks.rows import Near, Turned
+from reraid_try.checks.rows import Bounds, Near, Turned
 from reraid_try.evidence.images import Image
 from reraid_try.policy import cures
 from reraid_try.policy.shapes import Shape, Tiers
@@ -104,7 +104,7 @@ class Nearest(unittest.TestCase):
             return put((f"1 {SET}\n" if not groups or groups == 1 and holds else "") + "next 9 of 9\n")
         found, standin, _ = self.of_hunt(listed, Shape("5", 3))
         near, = found.by_marks()
-        self.assertEqual((near.word, near.misfits), (SET, 1))
+        self.assertEqual((near.word, near.misfits, len(near.plan.groups)), (SET, 1, 2))
         self.assertFalse(any("misfits None" in text for _, text in standin.asked))
         self.assertEqual([text.split("group ")[1].split()[0] for _, text in standin.asked if "group " in text][:1], ["xfs"])
         found, standin, _ = self.of_hunt(lambda *_: put("next 9 of 9\n"), Shape("5", 3))
@@ -163,6 +163,71 @@ class Nearest(unittest.TestCase):
         with mock.patch.object(found, "sets", side_effect=[["5:ls:none:8:6400:0,1,2"], []]) as asked:
             self.assertEqual(found.fewest(plan_of(XFS), 9000), 6400)
         self.assertEqual(asked.call_args[0][0].values["badrows"], "6299")
+
+    def test_how_many_are_looked_at_and_shown(self) -> None:
+        """24 sets are asked of a plan, the eight largest groups are looked at, and three sets are shown of either kind, each kind in four times the
+        time of a trial."""
+        found, standin, report = self.of_hunt(with_five, Shape("5", 3))
+        found.by_rows(found.shapes())
+        found.of_group(found.hunt.plan, found.hunt.plan.groups[0])
+        sizes = [next(word for word in words if word.startswith("size=")) for words, _ in standin.asked if words[1] == "list"]
+        self.assertEqual((set(sizes), sizes.count("size=24")), ({"size=1", "size=24"}, 3))
+        many = plan_of(*(("xfs", [("super", 0, 2048 * place + mark, "at:0") for mark in range(place + 1)]) for place in range(10)))
+        setattr(found.hunt, "surveys", types.SimpleNamespace(plan=lambda _: many))
+        with mock.patch.object(found, "sets", return_value=[SET]), mock.patch.object(found, "of_group", return_value=[]) as of_group:
+            found.by_marks()
+        self.assertEqual([call.args[1].place for call in of_group.call_args_list], [9, 8, 7, 6, 5, 4, 3, 2])
+        near = [Near(SET, many, Checked(5, 1000, seconds=9))] * 5
+        with mock.patch.multiple(found, by_rows=lambda _: near, by_marks=lambda: near), mock.patch.object(found, "begin") as begin:
+            found.show(False)
+            report.lines.clear()
+            found.show_on_the_way()
+        self.assertEqual(begin.call_count, 2)
+        with mock.patch("reraid_try.report.diagnosis.time", types.SimpleNamespace(monotonic=lambda: 1000)):
+            found.begin()
+        self.assertEqual(found.until, 1000 + 4 * 60)
+        self.assertEqual(len(report.lines), 4)
+        self.assertEqual(len(list(report.record.of("near"))), 9)
+
+    def test_what_is_near_goes_down(self) -> None:
+        """No shape raises again how many rows may be unsound in the next one."""
+        found, _, _ = self.of_hunt(with_five, Shape("5", 3), Shape("5", 4), Shape("5", 5))
+        with mock.patch.object(found, "fewest", side_effect=[5, None, 8, None, None, None]) as fewest:
+            found.by_rows(found.shapes())
+        self.assertEqual([call.args[1] for call in fewest.call_args_list], [1000, 10, 10, 10, 10, 10])
+
+    def test_by_what_it_was_found(self) -> None:
+        """A set that misfits alone allow is tested with as many; what `check` says of more rows than may be unsound counts as so many."""
+        def listed(_: list[str], text: str) -> Answer:
+            return with_five(_, text) if "misfits 8\n" in text else put("next 9 of 9\n")
+        found, _, _ = self.of_hunt(listed, Shape("5", 3))
+        self.assertEqual([it.misfits for it in found.by_rows(found.shapes())], [8])
+        with mock.patch.object(found, "sets", side_effect=[[SET], []]):
+            self.assertEqual(found.fewest(plan_of(XFS), 3), 3)
+
+    def test_in_which_order(self) -> None:
+        """Those by rows begin with the fewest unsound ones, those by marks with the most that fit."""
+        def check(words: list[str], _: str) -> Answer:
+            number = int(words[2].split(":")[-2])
+            return put(f"unsound {9 - number} of 10\ngroup 0 xfs origin 0 fits {number} misfits 0\nfail\n")
+
+        def listed(_: list[str], text: str) -> Answer:
+            some = "".join(f"{k} 5:ls:none:8:{k}:0,1,2\n" for k in (3, 8, 5))
+            return put((some if "badrows 0\n" not in text or text.count("group ") < 2 else "") + "next 9 of 9\n")
+        found, _, _ = self.of_hunt(listed, Shape("5", 3), check=check)
+        for near in (found.by_rows(found.shapes()), found.by_marks()):
+            self.assertEqual([it.word.split(":")[-2] for it in near], ["8", "5", "3"])
+        mixed = [Near(SET, plan_of(XFS), Checked(unsound, 10, (Held("xfs", 0, fits, 0),))) for unsound, fits in ((9, 9), (0, 3))]
+        with mock.patch.object(found, "asked", return_value=mixed):
+            self.assertEqual(([it.told.unsound for it in found.by_rows([])], [it.told.unsound for it in found.by_marks()]), ([0, 9], [9, 0]))
+
+    def test_fields_of_a_line(self) -> None:
+        """Programs are told the first and the last unsound row."""
+        found, _, report = self.of_hunt(with_five, Shape("5", 3))
+        with mock.patch.object(found.rows, "bounds", return_value=Bounds(7, 999)), mock.patch.object(found.rows, "turned", return_value=None):
+            found.lines([Near(SET, plan_of(XFS), Checked(5, 1000))])
+        said, = report.record.of("near")
+        self.assertEqual((said["set"], said["unsound"], said["rows"], said["first"], said["last"]), (SET, 5, 1000, 7, 999))
 
     def test_order(self) -> None:
         plan = plan_of(XFS)

@@ -17,9 +17,10 @@ from reraid_try.evidence.heads import Head
 from reraid_try.evidence.images import Image
 from reraid_try.evidence.maps import Map
 from reraid_try.evidence.metadata import Member
+from reraid_try.evidence.places import Placement
 from reraid_try.evidence.relations import Relations
 from reraid_try.evidence.shared import Place
-from reraid_try.evidence.shifts import Shift
+from reraid_try.evidence.shifts import Distances, Shift
 from reraid_try.evidence.tables import Partition, Table
 from reraid_try.evidence.unlike import Unlike
 from reraid_try.options import Options
@@ -48,7 +49,7 @@ def evident(images: Sequence[Image], runner: Standin, options: Options) -> tuple
     """The evidence of a search over these images, and its report."""
     report = Told()
     room = types.SimpleNamespace(base="/nowhere")
-    search = types.SimpleNamespace(images=images, options=options, report=report, commands=runner, room=room, tested=[])
+    search = types.SimpleNamespace(images=images, options=options, report=report, commands=runner, room=room, tested=[], stale=set(), reshapes=[])
     return Evident(cast(Any, search)), report
 
 
@@ -188,7 +189,7 @@ class ByPlaces(unittest.TestCase):
             taken.append(trial)
             return True
         placement = types.SimpleNamespace(words=lambda *_: ["5:ls:none:16:64:0,1,2"])
-        hunt = types.SimpleNamespace(places=types.SimpleNamespace(best=lambda _: [placement]), plan=plan_of(NTFS),
+        hunt = types.SimpleNamespace(places=types.SimpleNamespace(best=lambda *_: [placement]), plan=plan_of(NTFS),
                                      evidence=types.SimpleNamespace(tried=(0, 64), end=900),
                                      asking=types.SimpleNamespace(request=lambda _: BASE))
         said: list[str] = []
@@ -198,14 +199,41 @@ class ByPlaces(unittest.TestCase):
             said.append(listing.line())
             self.assertTrue(listing.whole)
             return trial
-        search = types.SimpleNamespace(options=Options(("a",)), say_trial=say_trial, take=take)
+        search = types.SimpleNamespace(options=Options(("a",)), say_trial=say_trial, take=take, tested=[])
         aim = Aim((0, 1, 2), Span(0, 900), "why", (Shape("5", 3),), tied=True)
         self.assertTrue(Evident(cast(Any, search)).by_places(cast(Any, hunt), aim))
         self.assertEqual([(it.request and it.request.records, it.out) for it in taken], [(True, {0})])
 
+    def test_parity_that_stays(self) -> None:
+        """Where no set by which it moves in each row is whole or content those are tested by which it stays for 16 rows of shorter chunks."""
+        asked: list[tuple[list[str], list[str], str]] = []
+        tested: list[Any] = []
+        found: list[Any] = []
+
+        def take(_hunt: Any, trial: Trial, sets: Any, _words: Any) -> bool:
+            asked.append(([it.text for it in sets], trial.loosened[1:], trial.request.get("delays") if trial.request else ""))
+            tested.extend(found)
+            return whole
+        turn = mock.Mock(patterns=(("la", "none"),))
+
+        def best(_offsets: Any, chunks: Sequence[int]) -> list[Placement]:
+            return [Placement(turn, chunk, 64, (0, 1, 2), 0, 99) for chunk in chunks if chunk in (128, 2048 * 16)]
+        hunt = types.SimpleNamespace(places=types.SimpleNamespace(best=best), plan=plan_of(NTFS),
+                                     evidence=types.SimpleNamespace(tried=(0, 64), end=900), asking=types.SimpleNamespace(request=lambda _: BASE))
+        search = types.SimpleNamespace(options=Options(("a",)), say_trial=lambda _, trial, __: trial, take=take, tested=tested)
+        first: tuple[list[str], list[str], str] = ["5:la:none:128:64:0,1,2"], [], ""
+        staying = ["5:la*16:none:8:64:0,1,2", "5:la*16:none:2048:64:0,1,2"], ["delays 1,16"], "1,16"
+        for content, whole, wanted in ((False, False, [first, staying]), (True, False, [first]), (False, True, [first])):
+            asked.clear()
+            tested.clear()
+            found = [cast(Any, types.SimpleNamespace(score=Score.CHECKED))] * content
+            aim = Aim((0, 1, 2), Span(0, 900), "why", (Shape("5", 3),), tied=True)
+            self.assertEqual(Evident(cast(Any, search)).by_places(cast(Any, hunt), aim), whole)
+            self.assertEqual(asked, wanted)
+
     def test_nothing_that_zeros_allow(self) -> None:
         """Where parity lies may not be known, or no set be near what zeros say: then nothing is tested. What is known is not asked again."""
-        none = types.SimpleNamespace(best=lambda _: [])
+        none = types.SimpleNamespace(best=lambda *_: [])
         for known, asked, calls in ((None, None, 1), (None, none, 1), (none, None, 0)):
             hunt = types.SimpleNamespace(places=known, evidence=types.SimpleNamespace(tried=(0,), end=900), ask_places="how")
             it, report = evident([], NoTools({}), Options(("a",)))
@@ -231,39 +259,66 @@ class Apart(unittest.TestCase):
     """Images that hold the same, but not at the same sectors."""
 
     images = [Image(name, number, 900, first=8) for number, name in enumerate("abc")]
+    named = "metadata on image 1 say (LVM2): parts of volumes begin at sectors 8, 16"
 
-    def unlike(self, known: Sequence[ties.Known], alone: Sequence[int], shown: Sequence[Shift], offsets: Unlike | None = None,
+    def unlike(self, known: Sequence[ties.Known], alone: Sequence[int], shown: Sequence[Shift], offsets: Sequence[Unlike] = (),
                options: Options = Options(("a",)), partition: bool = False) -> list[Aim]:
         """What is tried of three images, of which this is known, with distances between them and the offsets that parity allows."""
         it, self.report = evident(self.images, NoTools({}), options)
         told, part = ties.Told(tuple(known), tuple(alone), True), Part((0, 1, 2), Span(0, 900, partition))
-        with mock.patch("reraid_try.policy.evident.unlike.found_shifts", return_value=list(shown)), \
-                mock.patch("reraid_try.policy.evident.unlike.look", return_value=offsets):
-            return it.unlike(it.asked(), told, part)
+        with mock.patch("reraid_try.policy.evident.unlike.found_shifts", return_value=Distances(tuple(shown))), \
+                mock.patch("reraid_try.policy.evident.metadata.lvm_starts", return_value={1: (8, 16)}), \
+                mock.patch("reraid_try.policy.evident.unlike.look", return_value=offsets) as look:
+            found = it.unlike(it.asked(), told, part)
+        if look.called:
+            self.assertEqual(look.call_args[0][1:], (self.images, Distances(tuple(shown)), 900, {1: (8, 16)}))
+        return found
 
     def test_copies_that_lie_apart(self) -> None:
         """They are tried as RAID 10, but where parity ties the images at offsets of their own, or level 10 is not asked for."""
         shown = [Shift(0, 1, 128, 50), Shift(1, 2, 128, 40)]
-        aim, = self.unlike((), (0, 1, 2), shown)
+        aim, _ = self.unlike((), (0, 1, 2), shown)
         self.assertEqual((aim.images, aim.copied, aim.apart, aim.shapes), ((0, 1, 2), True, 128, ()))
         self.assertEqual(aim.why, "the images hold the same 128 sectors apart, as RAID 10 with copies of layout offset does, and as any array "
                          "may in which the same files are stored twice, or whose data begin at unlike sectors")
-        self.assertEqual(self.unlike((), (0, 1, 2), shown, options=Options(("a",), levels=("5",))), [])
+        self.assertEqual([aim.apart for aim in self.unlike((), (0, 1, 2), shown, options=Options(("a",), levels=("5",)))], [None])
+        self.assertEqual(self.report.lines, [self.named])
         five = ties.Known(Family((0, 1, 2), 500, 8, 900, "5", 1), None, 40)
-        aim, = self.unlike((), (0, 1, 2), shown, Unlike((8, 136, 264), five))
-        self.assertEqual((aim.moved, aim.apart, aim.begin, aim.shapes), ((8, 136, 264), None, 40, (Shape("5", 3),)))
-        self.assertEqual(self.report.lines, ["the data begin at unlike sectors of the images, at which parity ties them: 8, 136, 264"])
-        aim, = self.unlike((), (0, 1, 2), shown, Unlike((8, 136, 264), five), partition=True)
+        found = self.unlike((), (0, 1, 2), shown, [Unlike((8, 136, 264), five), Unlike((0, 128, 256), dataclasses.replace(five, begin=48))])
+        self.assertEqual([(aim.moved, aim.apart, aim.begin, aim.shapes) for aim in found],
+                         [((8, 136, 264), None, 40, (Shape("5", 3),)), ((0, 128, 256), None, 48, (Shape("5", 3),))])
+        self.assertEqual(self.report.lines, [self.named, "the data begin at unlike sectors of the images, at which parity ties them: 8, 136, 264"])
+        aim, = self.unlike((), (0, 1, 2), shown, [Unlike((8, 136, 264), five)], partition=True)
         self.assertEqual((aim.moved, aim.apart, self.report.lines), ((), 128, []))
 
+    def test_beginnings_before_copies(self) -> None:
+        """Distances that agree with one beginning of each image, and might not, are tried as such before RAID 10; those of a chain behind it."""
+        shown = [Shift(0, 1, 128, 50), Shift(1, 2, 128, 40), Shift(0, 2, 256, 30)]
+        for these, order in ((shown, [None, 128]), (shown[:2], [128, None])):
+            found = self.unlike((), (0, 1, 2), these)
+            self.assertEqual([aim.apart for aim in found], order)
+            guess, = (aim for aim in found if not aim.copied)
+            self.assertEqual((dict(guess.asked)["offsets"], guess.shapes), ("8,136,264", (Shape("5", 4, 1), Shape("6", 5, 2))))
+        # Distances that contradict each other are none of beginnings, and of others nothing is tried.
+        self.assertEqual([aim.apart for aim in self.unlike((), (0, 1, 2), [*shown[:2], Shift(0, 2, -128, 30)])], [128])
+        self.assertEqual(self.unlike((), (0, 1, 2), []), [])
+
     def test_an_image_that_nothing_ties_where_a_disk_is_lost(self) -> None:
-        """Its data may begin elsewhere. Where none is lost it is foreign, and where all are tied nothing is looked for."""
+        """Its data may begin elsewhere. Where none is lost it is foreign, and where all are tied nothing is looked for; nor are copies."""
         lost, full = (ties.Known(Family((0, 1), 500, 8, 900, "6", parity)) for parity in (1, 2))
-        offsets = Unlike((8, 8, 136), ties.Known(Family((0, 1, 2), 500, 8, 900, "6", 2)))
+        offsets = [Unlike((8, 8, 136), ties.Known(Family((0, 1, 2), 500, 8, 900, "6", 2)))]
         self.assertEqual([aim.moved for aim in self.unlike((lost,), (2,), (), offsets)], [(8, 8, 136)])
-        self.assertEqual(self.unlike((lost,), (2,), [Shift(0, 2, 128, 50)]), [])
+        self.assertEqual(self.unlike((lost,), (2,), [Shift(0, 2, 128, 50), Shift(1, 2, 128, 50)]), [])
         self.assertEqual(self.unlike((full,), (2,), (), offsets), [])
         self.assertEqual(self.unlike((lost,), (), (), offsets), [])
+
+    def test_images_of_which_some_begin_alike(self) -> None:
+        """Few rows tie those, where others hold zeros: the others may be as many as there are. Copies are no such images."""
+        few = ties.Known(Family((0,), 500, 8, 900, "5", 0))
+        offsets = [Unlike((8, 8, 136), ties.Known(Family((0, 1, 2), 500, 8, 900, "5", 1)))]
+        self.assertEqual([aim.moved for aim in self.unlike((few,), (1, 2), (), offsets)], [(8, 8, 136)])
+        for other in (dataclasses.replace(few.family, parity=1), dataclasses.replace(few.family, level="10")):
+            self.assertEqual(self.unlike((few, ties.Known(other)), (1, 2), (), offsets), [])
 
     def copies(self, aim: Aim, *content: int) -> tuple[bool, list[str]]:
         """Whether the search is at its end, and what was asked of copies, where candidates of these questions have a sign."""
@@ -489,11 +544,57 @@ class Evidence(unittest.TestCase):
         rnd = random.Random(2)
         made = rows.beside(rows.without(rows.striped(rnd, 6, 6, 600, chunk=16), 1), rows.alone(rnd, 600))
         runner, images = disks(made)
-        with mock.patch("reraid_try.policy.evident.unlike.found_shifts", return_value=[]):
+        with mock.patch("reraid_try.policy.evident.unlike.found_shifts", return_value=Distances()), \
+                mock.patch("reraid_try.policy.evident.metadata.lvm_starts", return_value={}):
             found, said = self.aims(images, runner)
         self.assertEqual([(aim.images, aim.shapes, dict(aim.asked), aim.begin) for aim in found],
                          [((0, 1, 2, 3, 4), (Shape("6", 6, 1),), {"chunks": "16"}, 0)])
         self.assertEqual(len(said), 2)
+
+    def test_in_which_order(self) -> None:
+        """Metadata; data that begin at unlike sectors; two images that may be copies; families; copies; whole images that are the same; what nothing
+        ties."""
+        it, _ = evident([Image(name, number, 300, first=0) for number, name in enumerate("abc")], Standin({}, Answer(None)), Options(("a",)))
+
+        def aims(why: str) -> Any:
+            return lambda *_: [Aim((0, 1, 2), Span(0, 300), why, (Shape("0", 3),))]
+        with mock.patch.multiple(it, unlike=aims("unlike"), alike=aims("alike"), by_metadata=aims("metadata")), \
+                mock.patch.multiple("reraid_try.policy.evident.plain", perhaps_copied=aims("perhaps"), tied=aims("tied"), copied=aims("copied"),
+                                    untied=aims("untied")):
+            self.assertEqual([aim.why for aim in it.aims(Part((0, 1, 2), Span(0, 300)))],
+                             ["metadata", "unlike", "perhaps", "tied", "copied", "alike", "untied"])
+
+    def test_how_many_are_alike(self) -> None:
+        """As many as most of the images that have their like; two where none has."""
+        cases: list[tuple[dict[int, int], int]] = [({}, 2), ({1: 0, 3: 2, 5: 4, 6: 4}, 2), ({1: 0, 2: 0, 5: 4, 6: 4, 8: 7}, 3)]
+        for like, count in cases:
+            it, _ = evident([Image("a", number, 300, first=0, like=like.get(number)) for number in range(9)], NoTools({}), Options(("a",)))
+            self.assertEqual(it.alike_count(range(9)), count)
+
+    def test_an_old_disk(self) -> None:
+        """It is kept in mind for what is said of candidates of the others."""
+        rnd = random.Random(2)
+        made = rows.striped(rnd, 6, 6, 300, chunk=16)
+        for row in made[100:]:
+            row[4] = rows.sector(rnd)
+        runner, images = disks(made)
+        found, _ = evident(images, runner, Options(("a",)))
+        setattr(found, "by_metadata", lambda _: [])
+        aim, = found.aims(Part(tuple(range(6)), Span(0, 300)))
+        self.assertEqual((aim.images, found.search.stale), ((0, 1, 2, 3, 5), {4}))
+
+    def test_a_reshape(self) -> None:
+        """Where it stands is said, and kept in mind for the end, once; all five disks are tried."""
+        rnd = random.Random(12)
+        before, after = rows.striped(rnd, 5, 5, 100), rows.striped(rnd, 4, 5, 100)
+        runner, images = disks(before + rows.beside(after, [[bytes(rows.COLUMNS)]] * 100))
+        found, report = evident(images, runner, Options(("a",)))
+        setattr(found, "by_metadata", lambda _: [])
+        for _ in range(2):
+            aim, = found.aims(Part(tuple(range(5)), Span(0, 200)))
+        self.assertEqual((aim.images, aim.shapes), ((0, 1, 2, 3, 4), (Shape("5", 5),)))
+        self.assertIn("ties change for good between sector 99 and sector 100: up to the first 5 images are tied", report.text)
+        self.assertEqual([(it.last, it.sector) for it in found.search.reshapes], [(99, 100)])
 
     def test_an_image_twice_and_an_empty_one(self) -> None:
         """An image that is there twice counts once, and one of zeros not at all; that two are the same is tried as RAID 10 after that."""

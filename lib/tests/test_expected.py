@@ -43,6 +43,14 @@ class Expected(unittest.TestCase):
         self.assertIn("from 2 to 24", said("survey", "members=25"))
         self.assertIn("from 2 to 24", said("survey", "members=1"))
         self.assertEqual(said("survey", "members=2,24"), "")
+        self.assertEqual(said("survey", "delays=1,16"), "")
+        self.assertEqual(said("survey", "delays=1024"), "")
+        self.assertIn("from 1 to 1024", said("survey", "delays=1025"))
+        self.assertIn("from 1 to 1024", said("survey", "delays=0,2"))
+        self.assertIn("numbers of rows", said("survey", "delays=16K"))
+        self.assertIn("at most 16", said("survey", "delays=" + ",".join(map(str, range(1, 18)))))
+        self.assertIn("delays=1,16", said("survey", "delays=16,1"))
+        self.assertIn("is delays meant?", said("survey", "delay=16"))
         self.assertIn("layouts=near3,far2", said("mirrors", "layouts=far2,near3"))
         self.assertIn("is far2 meant?", said("mirrors", "layouts=f2"))
 
@@ -56,6 +64,10 @@ class Expected(unittest.TestCase):
         self.assertIn("numbers of images", said("nbd", "set=5:ls:none:128:2048:a,b,c"))
         self.assertIn("24: slots are numbers of images", said("nbd", "set=5:ls:none:128:2048:23,24,0"))
         self.assertEqual(said("nbd", "set=5:ls:none:128:2048:23,1,0"), "")
+        self.assertEqual(said("nbd", "set=5:ls*16:none:128:2048:0,1,-"), "")
+        for delay in ("*1", "*0", "*", "*16K", "*016", "*4294967296"):
+            self.assertIn("ls alone where that is one", said("nbd", f"set=5:ls{delay}:none:128:2048:0,1,-"))
+        self.assertIn("is ls meant?", said("nbd", "set=5:left-symmetric*16:none:128:2048:0,1,2"))
         self.assertEqual(said("nbd", "set=5:ls:none:128:2048:0,1,-"), "")
 
     def test_maps(self) -> None:

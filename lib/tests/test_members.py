@@ -4,6 +4,7 @@ import dataclasses
 import types
 import unittest
 from collections.abc import Sequence
+from typing import Any, cast
 from unittest import mock
 
 from reraid_try.calls.commands import Answer
@@ -158,7 +159,29 @@ class Numbers(InFolder):
             return put(f"unsound {min(3, rows // 2000) if '0,3,1,2' in answered[2] else 900} of {rows}\nfail\n")
         it = self.found("6:ls:by-data:128:2048:0,-,1,2", ("reraid check", told))
         found, = Rows(it.hunt).old(it)
-        self.assertEqual((found.image, found.slot, found.text("abcdefg")[:20]), (6, 1, "g is old or damaged:"))
+        self.assertEqual((found.image, found.slot, found.text("abcdefg")[:40]), (6, 1, "g is old or damaged from row 1999 on: as"))
+
+    def stale(self, unsound: Sequence[int], rows: int = 1000) -> tuple[list[str], list[tuple[list[str], str]]]:
+        """What is said of image 5 of the heap, which is none of the hunt's and which ties name as old, where so many of the rows are unsound with it
+        in slot 1 and in slot 4, and what was asked."""
+        def told(answered: list[str], text: str) -> Answer:
+            window = min(rows, int(text.split("window ")[1].split()[0]))
+            bad = unsound[answered[2].endswith(",4")] if "i5" in answered else rows
+            return put(f"unsound {max(0, bad - (rows - window))} of {window}\nfail\n")
+        it = self.found("6:ls:by-data:128:2048:0,-,1,2,-", ("reraid check", told))
+        found = Rows(it.hunt).old(it, [Image("i5", 5, 7000, first=8)])
+        return [old.text("abcdefg") for old in found], [it for it in cast(Any, it.hunt).standin.asked if "i5" in it[0]]
+
+    def test_what_ties_name_as_old(self) -> None:
+        """It is asked of beside the images of the hunt, in each empty slot, and named with the slot and the row from which on it is old; also where
+        most rows are unsound, and not where nearly all are, or none."""
+        said, asked = self.stale((800, 950))
+        self.assertEqual(said, ["f is old or damaged from row 200 on: as slot 1 parity holds with it in all rows but 800 of 1000"])
+        self.assertEqual(asked[0][0][2:], ["set=6:ls:by-data:128:2048:0,4,1,2,-", "--", "i0", "i1", "i2", "i3", "i5"])
+        self.assertIn("length 100000\nlength 7000\nend 7000\n", asked[0][1])
+        said, _ = self.stale((880, 300))
+        self.assertEqual(said, ["f is old or damaged from row 700 on: as slot 4 parity holds with it in all rows but 300 of 1000"])
+        self.assertEqual([self.stale((bad, 1000))[0] for bad in (900, 0)], [[], []])
 
 
 if __name__ == "__main__":

@@ -268,6 +268,22 @@ class Lvm(unittest.TestCase):
         told = list(found.members({"b" * 32: (0, 0), "a" * 32: (1, 64)}))
         self.assertEqual([(it.image, it.slot, it.offset, it.disks) for it in told], [(1, 0, 64 + 10240, 3), (0, 1, 34816, 3)])
 
+    def test_starts(self) -> None:
+        """Where parts of volumes begin on the images whose labels are there, of whatever type these are; those of RAID have no stripes."""
+        with tempfile.TemporaryDirectory() as folder:
+            names = {}
+            for image, letter in enumerate("bdx"):
+                names[image] = os.path.join(folder, str(image))
+                with open(names[image], "wb") as file:
+                    file.write(bytes(512 * (1 + 8 * image)) + (b"LABELONE" + bytes(24) + letter.encode() * 32 if letter != "x" else b"").ljust(4096))
+                    file.write(LVM_TEXT.encode().replace(b"raid5_ls", b"raid5_zz") + bytes(512))
+            self.assertEqual(metadata.lvm_starts({0: 0, 1: 8, 2: 16}, names), {0: (2048, 2048 + 4 * 8192)})
+            self.assertEqual(metadata.lvm_starts({0: 1}, names), {0: (2049, 2049 + 4 * 8192)})
+        self.assertEqual(metadata.segments_of(""), [])
+        self.assertEqual(metadata.segments_of(LVM_TEXT.replace('"pv1", 4', '"pv1", x')), [])
+        self.assertEqual(metadata.starts_line("image 1", (8,)), "metadata on image 1 say (LVM2): parts of volumes begin at sector 8")
+        self.assertEqual(metadata.starts_line("image 1", (8, 16)), "metadata on image 1 say (LVM2): parts of volumes begin at sectors 8, 16")
+
     def test_damaged(self) -> None:
         """A text that is torn tells nothing and ends nothing."""
         for end in range(0, len(LVM_TEXT), 37):

@@ -38,6 +38,16 @@ class Best(unittest.TestCase):
         self.assertEqual(list(found[0].words("5", {0: 0, 1: 1, 2: 2, 3: 3})), ["5:ls:none:16:64:1,-,3,0,2", "5:la:none:16:64:1,-,3,0,2"])
         self.assertEqual(list(found[0].words("5", {0: 3, 1: 2, 2: 1, 3: 0}, (8, 9, 8, 9)))[0], "5:ls:none:16:8+9+8+9:2,-,0,3,1")
 
+    def test_parity_that_stays(self) -> None:
+        """The turns of a chunk are those of one that is shorter, whose parity stays for as many rows more."""
+        whole = rows.striped(self.rnd, 5, 5, 3200, chunk=32, sparse=0.6)
+        it = told(shuffled(whole, (3, 0, 4, 2)), "5", 5)
+        found = next(it for it in it.best([64], [32]) if it.turn.patterns[0][0] == "ls")
+        self.assertEqual(list(found.words("5", {0: 0, 1: 1, 2: 2, 3: 3}, delay=4)), ["5:ls*4:none:8:64:1,-,3,0,2", "5:la*4:none:8:64:1,-,3,0,2"])
+        sets = ("la", 32), ("la*4", 8), ("la", 8), ("la*4", 32)
+        words = [made("5", pattern, "none", chunk, (64,), (1, None, 3, 0, 2)) for pattern, chunk in sets]
+        self.assertEqual(it.allowed(words), [True, True, False, False])
+
     def test_level_6_two_lost(self) -> None:
         """A RAID 6 of which two disks are lost."""
         whole = rows.striped(self.rnd, 6, 6, 1600, chunk=8, sparse=0.6)

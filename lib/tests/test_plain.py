@@ -104,6 +104,14 @@ class Aims(unittest.TestCase):
         self.assertTrue(aim.is_each)
         self.assertEqual(aim.shapes, (Shape("5", 3),))
 
+    def test_guessed(self) -> None:
+        """Beginnings that parity does not show are those of a level that has lost as many disks as it bears."""
+        aim, = plain.guessed_aims((64, 16, 16), range(3), SPAN, ALL)
+        self.assertEqual(dict(aim.asked) | {"window": ""}, {"mode": "each", "offsets": "16,64", "window": ""})
+        self.assertEqual((aim.images, aim.shapes, aim.tied, aim.moved), ((0, 1, 2), (Shape("5", 4, 1), Shape("6", 5, 2)), False, ()))
+        self.assertEqual(aim.why, "the images hold the same as far apart as if their data began at these sectors: 64, 16, 16")
+        self.assertEqual(plain.guessed_aims((64, 16, 16), range(3), SPAN, Options(("a",), levels=("0", "10"))), [])
+
     def test_metadata(self) -> None:
         """What metadata name: layout, chunk and offset; a disk is lost where a slot is not named, and an old one is left out."""
         seen = ((0, 3, 9), (2, 0, 9), (3, 1, 9), (5, 2, 4))

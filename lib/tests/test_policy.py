@@ -18,7 +18,7 @@ from reraid_try.policy.hunt import Hunt
 from reraid_try.policy import cures, mirrors
 from reraid_try.policy.mirrors import Mirrors, groupings, is_striped, there
 from reraid_try.policy.plans import Asking
-from reraid_try.policy.questions import Questions
+from reraid_try.policy.questions import First, Questions
 from reraid_try.policy.shapes import Shape, Shapes
 from reraid_try.policy.steps import Step
 from reraid_try.policy.trials import Trial
@@ -115,8 +115,8 @@ class OfCures(unittest.TestCase):
         names = [cure.name for cure in cures.in_order(self.plan, self.asked)]
         self.assertEqual(names, ["half the window", "an end before a superblock", "file records of number 0 left out",
                                  "without group 1 (ext, 1 mark)", "without group 0 (xfs, 2 marks)", "without group 2 (ntfs, 3 marks)",
-                                 "group 2 (ntfs, 3 marks) alone", "group 0 (xfs, 2 marks) alone", "8 misfits", "badrows 256", "more offsets",
-                                 "more origins", "offsets 0,2048, each image its own"])
+                                 "group 2 (ntfs, 3 marks) alone", "group 0 (xfs, 2 marks) alone", "8 misfits", "delays 1,16", "badrows 256",
+                                 "more offsets", "more origins", "offsets 0,2048, each image its own"])
 
     def test_what_one_image_alone_shows(self) -> None:
         """It is left out where others show something, and not where it is all there is."""
@@ -157,6 +157,7 @@ class OfCures(unittest.TestCase):
         self.assertEqual(cures.bad_rows(7, [2048, 4096]).of(BASE).operands, BASE.having(badrows=7, offsets=2048).operands)
         self.assertEqual(cures.bad_rows(7, [4096]).of(BASE).get("offsets"), "0,2048")
         self.assertEqual(cures.more_offsets([16, 100000]).of(BASE).get("offsets"), "0,16,2048")
+        self.assertEqual((cures.delays().of(BASE).get("delays"), cures.delays().rows), ("1,16", False))
         self.assertIn(",63,", cures.more_origins().of(BASE).get("origins"))
         each = cures.offsets_each([0, 2048]).of(BASE)
         self.assertEqual((each.is_each, each.get("window"), cures.offsets_each([0]).slow), (True, "8192", True))
@@ -169,9 +170,9 @@ class OfCures(unittest.TestCase):
 
         def go(*names: str) -> bool:
             return cures.go_together([next(cure for name, cure in found.items() if name.startswith(begin)) for begin in names])
-        self.assertTrue(go("without group 1", "without group 0") and go("half", "8 misfits") and go("half", "an end"))
+        self.assertTrue(go("without group 1", "without group 0") and go("half", "8 misfits") and go("half", "an end") and go("an end", "delays"))
         for one, other in (("file records", "8 misfits"), ("without group 1", "group 2"), ("badrows", "half"), ("badrows", "an end"),
-                           ("badrows", "offsets 0"), ("more offsets", "offsets 0"), ("group 2", "group 0")):
+                           ("badrows", "offsets 0"), ("delays", "offsets 0"), ("more offsets", "offsets 0"), ("group 2", "group 0")):
             self.assertFalse(go(one, other), (one, other))
 
     def test_choices(self) -> None:
@@ -247,6 +248,9 @@ class OfAsking(unittest.TestCase):
         self.assertFalse(any(cure.kind for cure in asking.cures(Shape("5", 3))))
         self.assertTrue(any(cure.kind for cure in Asking(evidence(groups=(NTFS,)), OPTIONS).cures(Shape("5", 3))))
         self.assertNotIn(Family.ORIGINS, {cure.family for cure in Asking(evidence(groups=()), OPTIONS).cures(Shape("5", 3))})
+        # Parity may stay where there is some, also where as many disks are lost as the level bears, and soon tells.
+        shapes = Shape("0", 3), Shape("5", 3), Shape("5", 4, 1), Shape("6", 5, 2), Shape("5,6", 4)
+        self.assertEqual([Family.DELAYS in families(shape, quick=True) for shape in shapes], [False, True, True, True, True])
 
     def test_unlike_offsets(self) -> None:
         self.assertEqual(Asking(evidence(), OPTIONS).unlike_offsets(), [[2048, 4096], [0, 2048]])
@@ -282,12 +286,30 @@ class Asked(unittest.TestCase):
         self.assertTrue(questions.parity_allows(self.plan(misfits=0), Shape("5", 3)).there)
         self.assertEqual((standin.count("reraid list"), late), (2, []))
         self.assertNotIn("group", standin.asked[1][1])
+        self.assertIn("origins 0\n", standin.asked[1][1])
         self.assertIn("window 1\n", standin.asked[0][1])
 
     def test_late_counts_as_allowed(self) -> None:
         questions, _, late = self.questions(lambda *_: Answer(None))
         self.assertTrue(questions.may_list(self.plan(), Shape("6", 3)))
         self.assertEqual(late, ["landmarks alone allow in 5 s", "parity alone allows in 5 s"])
+        # What was put before its time was up is no first set: an earlier one may pass.
+        questions, _, _ = self.questions(lambda *_: Answer(None, b"3 5:la:none:8:0:0,1,2\n"))
+        self.assertEqual(questions.first("a", "x"), First("", True))
+
+    def test_time_of_a_question(self) -> None:
+        """It is a part of that of a trial, and five seconds at least, and no more than that of the trial that is at work."""
+        for seconds, work, part in ((60, 60, 10), (60, 5, 5), (9, 9, 5), (3, 3, 3)):
+            questions, standin, late = self.questions(lambda *_: Answer(None))
+            questions.program.seconds = work
+            setattr(questions.asking.shapes, "options", dataclasses.replace(OPTIONS, seconds=seconds))
+            with mock.patch.object(standin, "run", wraps=standin.run) as run:
+                questions.first("a", "x")
+                questions.allowed_by_landmarks(self.plan())
+                questions.most_fits(self.plan(), 1)
+            self.assertEqual([call.args[2] for call in run.call_args_list], [part] * 3)
+            self.assertEqual(late, [f"x in {part} s", f"enough marks of a group allow in {part} s"])
+        self.assertEqual(dataclasses.replace(OPTIONS, question=7).question_seconds, 7)
 
     def test_passed_over_where_landmarks_or_parity_allow_none(self) -> None:
         def answer(none: str) -> Reply:
@@ -316,6 +338,28 @@ class Asked(unittest.TestCase):
         self.assertEqual(asked, ["1", "128", "512"])
         self.assertEqual(self.questions(answer)[0].climb(self.plan(badrows=200)).bad_rows, 200)
 
+    def test_climb_of_many_sets(self) -> None:
+        """The more sets landmarks allow, the fewer rows may be bad, beside those that maps tell of: 300 million rows of 300,000 sets; 128 at
+        least."""
+        for total, most in ((1_200_000, 1000), (1_200_000_000, 128)):
+            def answer(words: list[str], text: str, total: int = total) -> Answer:
+                if f"from={LAST}" in words:
+                    return put("", 6, "reraid: cursor 1 is past 9")
+                return put(f"3 5:la:none:8:0:0,1,2\nnext 4 of {total}\n" if "window 1\n" in text else "next 9 of 9\n")
+            questions, standin, _ = self.questions(answer, evidence(data=((2, 2),), bad=9))
+            self.assertEqual(questions.climb(self.plan(badrows=9999)).bad_rows, most + 9)
+            asked = [int(text.split("badrows ")[1].split()[0]) for words, text in standin.asked if "from=0" in words and "window 1\n" not in text]
+            self.assertEqual(asked, [rows for rows in (137, 521) if rows < most + 9] + [most + 9])
+
+    def test_climb_that_is_late(self) -> None:
+        """Where a listing does not come to its end no more rows are asked for."""
+        def answer(words: list[str], text: str) -> Answer:
+            if f"from={LAST}" in words:
+                return put("", 6, "reraid: cursor 1 is past 9")
+            return put("next 9 of 9\n") if "window 1\n" in text else Answer(None)
+        questions, _, _ = self.questions(answer)
+        self.assertEqual(questions.climb(self.plan(badrows=9999)).bad_rows, 128)
+
     def test_smallest_offset_that_parity_allows(self) -> None:
         def answer(_words: list[str], text: str) -> Answer:
             offsets = text.split("offsets ")[1].split("\n")[0].split(",")
@@ -338,6 +382,24 @@ class Asked(unittest.TestCase):
         half = cures.half_window(plan_of(XFS))
         self.assertEqual(allows.needing(Shape("5", 3), [half], half.of(allows.asking.request(Shape("5", 3)))), [0, 2048])
         self.assertEqual((allows.is_unsound(Shape("5", 3)), refuses.is_unsound(Shape("5", 3))), (False, True))
+
+    def test_what_parity_allows_with_less(self) -> None:
+        """Where each image has an offset of its own any set that parity allows with less is enough; where it allows none all offsets stay, also those
+        that are none of the hints'."""
+        end = cures.before_superblock(plan_of(XFS))
+        for offsets, mode, first, wanted in (((0, 2048), "common", 2048, [0]), ((0, 2048), "each", 2048, []), ((), "common", None, [0, 2048]),
+                                             ((), "common", 2048, []), ((), "each", None, [0, 2048])):
+            questions, _, _ = self.questions(lambda *_: put(""), evidence(data=((2, 2),), offsets=offsets))
+            request = end.of(questions.asking.request(Shape("5", 3))).having(mode=mode)
+            with mock.patch.multiple(questions, first_allowed=lambda *_, first=first: first, far_before=lambda offset, *_: offset == 0):
+                self.assertEqual(questions.needing(Shape("5", 3), [end], request), wanted)
+
+    def test_unsound_by_the_offsets_that_are_asked_for(self) -> None:
+        """An offset of the hints behind which little is filled is not asked for, and says nothing."""
+        for filled, unsound in ((90000, True), (1, False)):
+            questions, _, _ = self.questions(lambda *_: put(""), evidence(data=((2, 2),), offsets=(0, 2048), filled={0: filled, 2048: 90000}))
+            with mock.patch.multiple(questions, first_allowed=lambda *_: 4096, far_before=lambda offset, *_: offset == 0):
+                self.assertEqual(questions.is_unsound(Shape("5", 3)), unsound)
 
     def test_bad_rows_that_maps_do_not_tell_of(self) -> None:
         """Where hints speak for a shape, there are landmarks, and more rows may be bad than the maps say."""
@@ -391,11 +453,53 @@ class Asked(unittest.TestCase):
             self.assertLessEqual(standin.count("reraid list"), 4)
         self.assertIsNone(self.questions(lambda *_: Answer(None))[0].most_fits(plan, 1))
 
+    def bounded(self, *counts: int) -> tuple[Questions, Standin, Plan]:
+        """Questions over a group of nine marks, of which so many fit at each of these sets."""
+        plan = plan_of(("xfs", [("super", 0, 2048 + number, "every:49152:4:0") for number in range(9)]))
+
+        def answer(words: list[str], text: str) -> Answer:
+            least = int(text.split("bounds ")[1].split()[1])
+            sets = [f"{number} 5:la:none:8:{number}:0,1,2\n" for number, fits in enumerate(counts) if fits >= least]
+            size = next(int(word[5:]) for word in words if word.startswith("size="))
+            return put("".join(sets[:size]) + "next 9 of 9\n")
+        questions, standin, _ = self.questions(answer)
+        return questions, standin, plan
+
+    def test_most_fits_beyond_some_sets(self) -> None:
+        """With how many more sets pass than so many, of which no more lines are asked for than tell it."""
+        for beyond, wanted in ((0, 8), (1, 7), (2, 7), (3, 2), (4, None)):
+            questions, standin, plan = self.bounded(8, 7, 7, 2)
+            self.assertEqual(questions.most_fits(plan, 0, beyond=beyond), wanted)
+            self.assertTrue(all(f"size={beyond + 1}" in words for words, _ in standin.asked))
+
+    def test_most_fits_above_another_number(self) -> None:
+        """Where no set has more one question tells that, and none where there are no more marks."""
+        for above, wanted, count in ((8, None, 1), (7, 8, 2), (6, 8, 3), (1, 8, 4), (9, None, 0)):
+            questions, standin, plan = self.bounded(8, 3)
+            self.assertEqual((questions.most_fits(plan, 0, above), standin.count("reraid list")), (wanted, count))
+        questions, standin, plan = self.bounded(9)
+        self.assertEqual(questions.most_fits(plan, 0, 8), 9)
+
+    def test_most_fits_in_the_time_of_a_question(self) -> None:
+        """All of its questions together take no longer than one."""
+        questions, standin, plan = self.bounded(8)
+        with mock.patch("reraid_try.policy.questions.time.monotonic", side_effect=[100, 104, 106]):
+            self.assertIsNone(questions.most_fits(plan, 0))
+        self.assertEqual(standin.count("reraid list"), 1)
+
+    def test_what_is_refused_asks_for_nothing_less(self) -> None:
+        """Where a question is refused all offsets stay."""
+        questions, _, _ = self.questions(lambda *_: put("", 5, "reraid: the product has more than 18446744073709551615 sets"))
+        end = cures.before_superblock(plan_of(XFS))
+        self.assertEqual(questions.needing(Shape("5", 3), [end], end.of(questions.asking.request(Shape("5", 3)))), [0, 2048])
+
     def test_far_before(self) -> None:
         questions, _, _ = self.questions(put(""), evidence(data=((2, 2),), filled={0: 90000, 2048: 50000}))  # type: ignore[arg-type]
         self.assertTrue(questions.far_before(0, 2048, Shape("5", 3)))
         self.assertFalse(questions.far_before(0, 2048, Shape("6", 3)))
         self.assertFalse(questions.far_before(2048, 0, Shape("5", 3)))
+        with mock.patch.object(questions.asking, "most_bad", return_value=questions.asking.evidence.filling.behind(0, 2048)):
+            self.assertFalse(questions.far_before(0, 2048, Shape("5", 3)))
 
 
 class Hunts(InFolder):
@@ -407,6 +511,14 @@ class Hunts(InFolder):
         seen = [Image(name, k, 8000) for k, name in enumerate(names)]
         return Hunt(Options(tuple(names)), standin, seen, nobody, pairs), standin
 
+    def test_what_is_asked_in_each_trial(self) -> None:
+        """What is known stands in each request, also in those of cures."""
+        hunt, standin = self.hunt(lambda *_: put("next 9 of 9\n"))
+        known = Hunt(Options(hunt.program.names), standin, hunt.evidence.images, nobody, asked={"chunks": "64", "window": 500})
+        for count in (0, 1):
+            _, request = next(known.ways(Shape("0", 3), count))
+            self.assertEqual((request.get("chunks"), request.get("window")), ("64", "500"))
+
     def test_listed_once(self) -> None:
         hunt, _ = self.hunt(lambda *_: put("next 9 of 9\n"))
         request = hunt.asking.request(Shape("5", 3))
@@ -417,7 +529,8 @@ class Hunts(InFolder):
         hunt, _ = self.hunt(lambda *_: put(""))
         bare = hunt.asking.bare(Shape("5,6", 4, 1))
         self.assertIsNone(hunt.to_list(Shape("5,6", 4, 1), bare))
-        self.assertIsNotNone(hunt.to_list(Shape("5,6", 4, 1), bare, last=True))
+        last = hunt.to_list(Shape("5,6", 4, 1), bare, last=True)
+        self.assertEqual(last and last.values["levels"], "5,6")
         none, _ = self.hunt(lambda *_: put(""), ())
         self.assertIsNone(none.to_list(Shape("0", 3), none.asking.request(Shape("0", 3))))
         plan = none.to_list(Shape("5,6", 4, 1), none.asking.request(Shape("5,6", 4, 1)))
@@ -447,6 +560,12 @@ class Hunts(InFolder):
         self.assertNotIn("an end before a superblock", names)
         self.assertIn("8 misfits", names)
         self.assertIn("an end before a superblock", [chosen[0].name for chosen, _ in allows.ways(Shape("5", 3), 1, every=True)])
+
+    def test_ways_without_parity(self) -> None:
+        """Where parity tells nothing it is not asked which offsets need a cure."""
+        hunt, standin = self.hunt(lambda *_: put("next 9 of 9\n"))
+        found = [chosen[0].family for chosen, _ in hunt.ways(Shape("0", 3), 1)]
+        self.assertEqual((Family.END in found, standin.count("reraid list")), (True, 0))
 
     def test_listing_is_told(self) -> None:
         hunt, standin = self.hunt(lambda words, _: put("", 6, "reraid: cursor 1 is past 0") if f"from={LAST}" in words else put("next 9 of 9\n"))
@@ -497,7 +616,21 @@ class Hunts(InFolder):
             left_out = count - allowed
             self.assertEqual(found.note, f"{left_out} more have parity where zeros are" if left_out else "")
 
+    def test_zeros_beside_what_was_late(self) -> None:
+        """Both are said of a listing."""
+        def answer(words: list[str], _: str) -> Answer:
+            late = Answer(None, b"1 5:la:none:8:0:0,1,2\n2 5:la:none:8:8:0,1,2\n")
+            return put("", 6, "reraid: cursor 1 is past 84") if f"from={LAST}" in words else late
+        hunt, _ = self.hunt(answer)
+        hunt.places = mock.Mock(allowed=lambda words: [it.offset == 0 for it in words])
+        note = "its time of 60 s was up before all were looked at; 1 more have parity where zeros are"
+        self.assertEqual(hunt.listing(Shape("5", 3), BASE, hunt.plan).note, note)
+
     def test_words(self) -> None:
+        hunt, _ = self.hunt(lambda *_: put(""))
+        hunt.evidence = dataclasses.replace(hunt.evidence, images=tuple(dataclasses.replace(it, number=it.number + 4) for it in hunt.evidence.images))
+        self.assertEqual([hunt.word(text).text for text in ("5:la:none:8:7+0+7:2,0,1", "5:la:none:8:7:2,-,1")],
+                         ["5:la:none:8:7+0+7:2,0,1", "5:la:none:8:7:6,-,5"])
         hunt, _ = self.hunt(lambda *_: put(""))
         self.assertEqual(hunt.word("5:la:none:8:7+7+7:0,1,2").text, "5:la:none:8:7:0,1,2")
         pairs, _ = self.hunt(lambda *_: put(""), pairs=Pairs(((5,), (), (4,)), (2048,)))

@@ -161,6 +161,28 @@ class Families(unittest.TestCase):
         found = told(rows.beside(six, five))
         self.assertEqual([(it.images, it.level, it.lost) for it in found], [((0, 1, 2, 3, 4), "6", 1), ((5, 6, 7), "5", 0)])
 
+    def test_two_arrays_that_hold_the_same(self) -> None:
+        """Two level 5 of which a disk each holds the same noise in some rows are no level 6; nor is a third one beside them part of it."""
+        for part in (30, 3):
+            made = rows.beside(*(rows.striped(self.rnd, disks, 5, NUMBER) for disks in (4, 3, 3)))
+            for number in range(1, NUMBER, part):
+                made[number][0] = made[number][5] = rows.sector(self.rnd)
+            found = told(made)
+            self.assertEqual([(it.images, it.level, it.parity, it.lost) for it in found],
+                             [((0, 1, 2, 3), "5", 1, 0), ((4, 5, 6), "5", 1, 0), ((7, 8, 9), "5", 1, 0)])
+            self.assertEqual([it.loose for it in found], [len(range(1, NUMBER, part))] * 2 + [0])
+
+    def test_two_arrays_with_the_same_data(self) -> None:
+        """The same where parity holds in the rows that both have, and one of their disks is zeros in most rows."""
+        one, other = (rows.striped(self.rnd, 4, 5, NUMBER, sparse=0.3) for _ in range(2))
+        for number in range(0, NUMBER, 4):
+            other[number] = one[number]
+        for number, row in enumerate(other):
+            if number % 5:
+                row[3], row[2] = bytes(rows.COLUMNS), rows.plus(row[2], row[3])
+        found = told(rows.beside(one, other))
+        self.assertEqual([(it.images, it.level, it.parity) for it in found], [((0, 1, 2, 3), "5", 1), ((4, 5, 6, 7), "5", 1)])
+
     def test_old(self) -> None:
         """A disk of a RAID 6 that dropped out: from row 100 on rows were written without it, but for each fifth."""
         made = rows.striped(self.rnd, 6, 6, NUMBER)
@@ -191,6 +213,9 @@ class Families(unittest.TestCase):
                          "the second on 4, without image 4. A reshape that stopped there does so; so does an older array of the 4 behind what a "
                          "newer one wrote, or image 4 if it is no member and holds what members hold, as a journal may; and so does image 4, "
                          "which is zeros there, if nothing is stored on it there")
+
+        self.assertEqual(found.reshape.short(), "perhaps a reshape stopped between sector 2207 and sector 2208, of 4 disks to 5, as was said: then "
+                         "no one set has the whole volume. What stands up to there is of the one array, and what stands behind it of the other")
 
     def test_older_array_behind_what_is_written(self) -> None:
         """The same is seen where an older array of four disks still stands behind what one of five wrote, so it is not called a reshape alone."""

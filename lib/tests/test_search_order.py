@@ -13,6 +13,7 @@ from reraid_try.calls.sets import NEAR_2, Word, read_word
 from reraid_try.checks.candidates import Candidate
 from reraid_try.checks.verdicts import Score
 from reraid_try.errors import Refused, Stopped
+from reraid_try.evidence.families import Reshape
 from reraid_try.evidence.hints import Hint, Source, What
 from reraid_try.evidence.images import Image
 from reraid_try.options import Options
@@ -79,6 +80,17 @@ class Runs(unittest.TestCase):
         self.assertEqual(self.done(Score.CHECKED, more=True), ["pass 9 0", "rows"])
         self.assertEqual(self.done(Score.NOTHING, solved=True, more=True), ["pass 9 0", "rows"])
 
+    def test_a_reshape(self) -> None:
+        """Where ties change for good is said once more at the end of a run in which nothing has a sign."""
+        for best, count in ((Score.KNOWN, 1), (Score.CHECKED, 0)):
+            it = search()
+            it.tested, it.reshapes = [tested(best)], [Reshape(99, 100, frozenset(range(5)), frozenset(range(4)))]
+            with mock.patch.multiple(it, pass_through=lambda: None, diagnose=lambda _: None, say_rows=lambda: None, may_read_all=lambda: False):
+                it.run()
+            self.assertEqual(len(said(it)), count)
+            self.assertEqual([line["first"] for line in it.report.record.of("reshape")], [100] * count)
+            self.assertTrue(all(line.startswith("perhaps a reshape stopped between sector 99 and sector 100, of 4 disks to 5") for line in said(it)))
+
     def test_best(self) -> None:
         it = search()
         self.assertEqual(it.best(), Score.NOTHING)
@@ -105,6 +117,28 @@ class Runs(unittest.TestCase):
                 it.pass_through()
             self.assertEqual((it.solved, done), (solved, wanted))
 
+    def test_rows_of_the_best(self) -> None:
+        """Of the candidates that are said in words it is asked in which rows parity holds, and beside the images of their hunts those that ties name
+        as old."""
+        it = search(5)
+        images = [types.SimpleNamespace(number=number) for number in (0, 1, 3)]
+        best: Any = types.SimpleNamespace(hunt=types.SimpleNamespace(evidence=types.SimpleNamespace(images=images)))
+        it.stale = {3, 2}
+        old = types.SimpleNamespace(text=lambda names: f"{names[2]} is old")
+        with mock.patch("reraid_try.policy.search.Rows") as made, mock.patch.object(it, "best_told", return_value=[(0, best)]):
+            made.return_value = mock.Mock(whole=lambda _: "parity holds", old=mock.Mock(return_value=[old]))
+            it.say_rows()
+            self.assertEqual(made.return_value.old.call_args[0], (best, [it.images[2]]))
+        self.assertEqual((best.rows, best.old), ("parity holds", ("i2 is old",)))
+
+    def test_of_which_more_is_told(self) -> None:
+        """The three best, and as many of those that are encrypted and none of these."""
+        it = search()
+        best, closed = list(enumerate("abcde")), list(enumerate("abxyzv"))
+        with mock.patch("reraid_try.policy.search.words.best", return_value=best), \
+                mock.patch("reraid_try.policy.search.words.encrypted", return_value=closed):
+            self.assertEqual(it.best_told(), [*best[:3], *closed[2:5]])
+
     def test_refused_diagnosis(self) -> None:
         """Its line is said, and the run goes on."""
         it = search()
@@ -118,52 +152,69 @@ class Runs(unittest.TestCase):
 class Steps(unittest.TestCase):
     """Which trials there are, in which order."""
 
-    def order(self, images: int, best: Callable[[list[str]], Score], run: str, exact: Sequence[Shape] = (FIVE,), ends: str = "",
+    damage, parity = "damage 4", ["5.0+0.0 0", "5.0 0", "6.1+5.0 0 quick"]
+    late, again = ["5.0+0.0 0", "6.1+5.0 0 quick"], "again"
+    loosened = ["5.0+0.0 1", "5.0+0.0 2", "5.0 3", "6.1+5.0 1 quick", "6.1+5.0 2 quick"]
+    rest = ["6.2 0", "6.1+5.0+6.2 1"]
+
+    def order(self, images: int, best: Callable[[list[str]], Score], run: str, exact: Sequence[Shape] = (FIVE,), ends: str = "", alike: bool = False,
               **values: Any) -> tuple[bool, list[str]]:
-        """Whether the search is at its end, and what was done, where the best is so good after these, and one of them may be enough."""
+        """Whether the search is at its end, and what was done, where the best is so good after these, and one of them may be enough. Steps that have
+        another time than that of a trial are counted."""
         it, done = search(images, **values), list[str]()
         tiers = Tiers((FIVE, NONE), (SIX, FIVE), (LOST,))
-        it.hunt = hunt(types.SimpleNamespace(tiers=lambda: tiers, exact=lambda: list(exact)))
+        if alike:
+            it.images = (*it.images[1:], dataclasses.replace(it.images[0], like=1))
+        it.hunt = hunt(types.SimpleNamespace(tiers=lambda: tiers, exact=lambda: list(exact)), program=types.SimpleNamespace(seconds=60),
+                       ask_again=lambda: done.append(self.again))
+        self.short = 0
+
+        def keep(what: str) -> bool:
+            done.append(what)
+            self.assertIn(it.hunt.program.seconds, (60, 10))
+            self.short += it.hunt.program.seconds == 10
+            return what == ends
 
         def step(what: Step, _hunt: Any = None) -> bool:
             levels = "+".join(f"{shape.levels}.{shape.missing}" for shape in what.shapes)
-            done.append(f"{levels or 'none'} {what.count}" + " quick" * what.quick + " every" * what.every)
-            return done[-1] == ends
-
-        def damage(shapes: Sequence[Shape]) -> bool:
-            done.append(f"damage {len(shapes)}")
-            return done[-1] == ends
-
-        def mirrors(_hunt: Any, missing: int) -> bool:
-            done.append(f"mirrors {missing}")
-            return done[-1] == ends
-        with mock.patch.multiple(it, take_step=step, best=lambda: best(done), before_damage=damage,
-                                 diagnose=lambda _: done.append("diagnosis"), near_mirrors=mirrors):
-            return bool(getattr(it, run)()), done
+            return keep(f"{levels or 'none'} {what.count}" + " quick" * what.quick + " every" * what.every)
+        with mock.patch.multiple(it, take_step=step, best=lambda: best(done), before_damage=lambda shapes: keep(f"damage {len(shapes)}"),
+                                 diagnose=lambda _: done.append("diagnosis"), near_mirrors=lambda _, missing: keep(f"mirrors {missing}")):
+            found = bool(getattr(it, run)())
+        self.assertEqual(it.hunt.program.seconds, 60)
+        return found, done
 
     def test_first_trials(self) -> None:
-        """Of an odd number of images the mirrors with one lost come first too, of others late; nothing of them where level 10 is not asked for."""
-        steps = ["damage 4", "5.0+0.0 0", "5.0 0", "5.0+0.0 1", "5.0+0.0 2", "5.0 3", "6.1+5.0 0 quick", "6.1+5.0 1 quick", "6.1+5.0 2 quick",
-                 "diagnosis"]
-        rest = ["6.2 0", "6.1+5.0+6.2 1"]
-        self.assertEqual(self.order(3, lambda _: Score.NOTHING, "first_trials"), (False, ["mirrors 0", "mirrors 1", *steps, *rest]))
-        self.assertEqual(self.order(4, lambda _: Score.NOTHING, "first_trials"), (False, ["mirrors 0", *steps, "mirrors 1", *rest]))
-        self.assertEqual(self.order(4, lambda _: Score.KNOWN, "first_trials", levels=("5",)), (False, [*steps[:-1], *rest]))
+        """What is plain comes first: parity, the rest, and RAID 10 with a disk lost too of an odd number of images; nothing of that where level 10 is
+        not asked for. Each takes a part of the time of a trial; parity that needs more has it then, before anything is loosened."""
+        odd = [self.damage, *self.parity, "6.2 0", "mirrors 0", "mirrors 1", self.again, *self.late, *self.loosened, "diagnosis", *self.rest]
+        self.assertEqual((self.order(3, lambda _: Score.NOTHING, "first_trials"), self.short), ((False, odd), 6))
+        even = [self.damage, *self.parity, "6.2 0", "mirrors 0", self.again, *self.late, *self.loosened, "diagnosis", "mirrors 1", *self.rest]
+        self.assertEqual((self.order(4, lambda _: Score.NOTHING, "first_trials"), self.short), ((False, even), 5))
+        known = [self.damage, *self.parity, "6.2 0", self.again, *self.late, *self.loosened, *self.rest]
+        self.assertEqual(self.order(4, lambda _: Score.KNOWN, "first_trials", levels=("5",)), (False, known))
         self.assertEqual(self.order(4, lambda _: Score.NOTHING, "first_trials", (LOST,), levels=("5",))[1][2], "none 0")
 
+    def test_images_that_are_the_same(self) -> None:
+        """RAID 10 comes before all else that is plain then."""
+        done = self.order(3, lambda _: Score.NOTHING, "first_trials", alike=True)[1]
+        self.assertEqual(done[:8], [self.damage, "mirrors 0", "mirrors 1", *self.parity, "6.2 0", self.again])
+
     def test_where_first_trials_end(self) -> None:
-        """Where a candidate is content, with something loosened: what is plain is gone through."""
+        """Where a candidate is content, with something loosened: what is plain is gone through, but for the rest where parity finds one."""
         few = self.order(4, lambda done: Score.CHECKED if "5.0+0.0 0" in done else Score.NOTHING, "first_trials", levels=("5",))
-        self.assertEqual(few, (True, ["damage 4", "5.0+0.0 0", "5.0 0", "5.0+0.0 1"]))
-        late = self.order(4, lambda done: Score.CHECKED if "6.2 0" in done else Score.NOTHING, "first_trials", levels=("5",))
-        self.assertEqual((late[0], late[1][-1]), (True, "6.2 0"))
+        self.assertEqual(few, (True, [self.damage, *self.parity, "5.0+0.0 1"]))
+        plain = self.order(4, lambda done: Score.CHECKED if "6.2 0" in done else Score.NOTHING, "first_trials")
+        self.assertEqual(plain, (True, [self.damage, *self.parity, "6.2 0", "mirrors 0", "5.0+0.0 1"]))
+        late = self.order(4, lambda done: Score.CHECKED if self.rest[1] in done else Score.NOTHING, "first_trials", levels=("5",))
+        self.assertEqual((late[0], late[1][-1]), (True, self.rest[1]))
 
     def test_what_is_enough_ends_it(self) -> None:
-        """Wherever it is found."""
+        """Wherever it is found, the first time that it is asked for."""
         for images, run in ((3, "first_trials"), (4, "first_trials"), (4, "further_trials")):
             done = self.order(images, lambda _: Score.NOTHING, run)[1]
             for place, what in enumerate(done):
-                if what != "diagnosis":
+                if what not in ("diagnosis", self.again) and what not in done[:place]:
                     self.assertEqual(self.order(images, lambda _: Score.NOTHING, run, ends=what), (True, done[:place + 1]))
 
     def test_further_trials(self) -> None:
@@ -309,7 +360,7 @@ class Attempts(unittest.TestCase):
     """One trial."""
 
     def attempt(self, plan: Any = "plan", may: bool = True, listing: Listing | Refused = Listing((), 9, True), last: bool = False,
-                **values: Any) -> tuple[bool, list[str], list[Trial]]:
+                tested_by: Any = BASE.having(window=7), **values: Any) -> tuple[bool, list[str], list[Trial]]:
         """What a trial gives, what was asked, and what was taken, of a hunt that says this."""
         it, asked, taken = search(**values), list[str](), list[Trial]()
 
@@ -329,7 +380,7 @@ class Attempts(unittest.TestCase):
         asking = types.SimpleNamespace(unread_cure=lambda *_: ())
         over = types.SimpleNamespace(to_list=lambda *_: plan, may_list=may_list, listing=listed, asking=asking)
         with mock.patch.object(it, "take", take):
-            told = it.attempt(cast(Any, over), FIVE, (cures.bad_rows(99, (0,)), cures.misfits()), BASE, last, BASE.having(window=7))
+            told = it.attempt(cast(Any, over), FIVE, (cures.bad_rows(99, (0,)), cures.misfits()), BASE, last, tested_by)
         self.printed = said(it)
         self.search = it
         return told, asked, taken
@@ -351,6 +402,10 @@ class Attempts(unittest.TestCase):
         """The trial names how many rows it took."""
         _, _, (trial,) = self.attempt(listing=Listing((), 9, False, "late", bad_rows=32))
         self.assertEqual((trial.loosened, self.search.was_late), (["badrows 32", "8 misfits"], True))
+        _, _, (trial,) = self.attempt(listing=Listing((), 9, False, "late", bad_rows=32), tested_by=None)
+        self.assertEqual(trial.request, BASE.having(badrows=32))
+        _, _, (trial,) = self.attempt(tested_by=None)
+        self.assertEqual(trial.request, BASE)
 
     def test_refused(self) -> None:
         self.assertEqual(self.attempt(listing=Refused("reraid: no"))[0], False)

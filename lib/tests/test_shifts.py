@@ -4,14 +4,15 @@ import os
 import random
 import tempfile
 import unittest
+from unittest import mock
 
 from reraid_try.evidence import shifts
-from reraid_try.evidence.shifts import Shift
+from reraid_try.evidence.shifts import Distances, Shift
 
 ZERO = bytes(512)
 
 
-class Distances(unittest.TestCase):
+class Files(unittest.TestCase):
     """What files tell."""
 
     def setUp(self) -> None:
@@ -26,6 +27,10 @@ class Distances(unittest.TestCase):
             file.write(b"".join(sectors))
         return name
 
+    def told(self, names: dict[int, str], first: int, last: int) -> list[Shift]:
+        """The distances that tell."""
+        return list(shifts.distances(names, first, last).told)
+
     def sectors(self, count: int) -> list[bytes]:
         """So many sectors, each of its own."""
         return [self.rnd.randbytes(512) for _ in range(count)]
@@ -34,18 +39,26 @@ class Distances(unittest.TestCase):
         """An image that holds what another one does 24 sectors further, beside contents of its own; what is on an image twice tells nothing."""
         same, table = self.sectors(40), self.sectors(1)[0]
         names = {2: self.write(2, self.sectors(20) + same + [table] * 30), 5: self.write(5, self.sectors(44) + same + [table] * 30 + [ZERO] * 99)}
-        self.assertEqual(shifts.shifts(names, 0, 90), [Shift(2, 5, 24, 40)])
-        self.assertEqual(shifts.shifts(names, 0, 60), [Shift(2, 5, 24, 16)])
+        self.assertEqual(self.told(names, 0, 90), [Shift(2, 5, 24, 40)])
+        self.assertEqual(self.told(names, 0, 60), [Shift(2, 5, 24, 16)])
+
+    def test_how_much_is_read(self) -> None:
+        """So much of each image, and no more of all: 60 sectors of each, or 80 of both."""
+        same = self.sectors(90)
+        names = {0: self.write(0, same), 1: self.write(1, [ZERO] * 8 + same)}
+        for each, of_all, shown in ((60 * 512, 1 << 20, 52), (1 << 20, 80 * 512, 32), (1 << 20, 1 << 20, 90)):
+            with mock.patch.multiple(shifts, MOST_READ=each, MOST_OF_ALL=of_all):
+                self.assertEqual(self.told(names, 0, 100), [Shift(0, 1, 8, shown)])
 
     def test_too_few(self) -> None:
         """A few sectors in common, and many of which no distance stands out, tell none."""
         few = self.sectors(shifts.LEAST_SHOWN - 1)
         names = {0: self.write(0, few + self.sectors(9)), 1: self.write(1, self.sectors(9) + few)}
-        self.assertEqual(shifts.shifts(names, 0, 20), [])
+        self.assertEqual(self.told(names, 0, 20), [])
         many = self.sectors(200)
         mixed = many[:]
         self.rnd.shuffle(mixed)
-        self.assertEqual(shifts.shifts({0: self.write(0, many), 1: self.write(1, mixed)}, 0, 200), [])
+        self.assertEqual(self.told({0: self.write(0, many), 1: self.write(1, mixed)}, 0, 200), [])
 
     def test_weak(self) -> None:
         """A distance that stands out but is of few of the contents in common tells of images that no other distance connects."""
@@ -53,16 +66,24 @@ class Distances(unittest.TestCase):
         mixed = many[:]
         self.rnd.shuffle(mixed)
         names = {0: self.write(0, same + many), 1: self.write(1, [ZERO] * 8 + same + mixed)}
-        self.assertEqual([(it.one, it.other, it.distance) for it in shifts.shifts(names, 0, 1700)], [(0, 1, 8)])
+        self.assertEqual([(it.one, it.other, it.distance) for it in self.told(names, 0, 1700)], [(0, 1, 8)])
         names = {0: self.write(0, same + many + [ZERO] * 2 + strong[:304]), 2: self.write(2, strong),
                  1: self.write(1, [ZERO] * 8 + same + mixed + [ZERO] * 2 + strong[304:])}
-        self.assertEqual([(it.one, it.other) for it in shifts.shifts(names, 0, 2400)], [(0, 2), (1, 2)])
+        self.assertEqual([(it.one, it.other) for it in self.told(names, 0, 2400)], [(0, 2), (1, 2)])
+
+    def test_weaker(self) -> None:
+        """Distances that do not tell are kept beside those that do, but of too few sectors; multiples of 2048 sectors come first."""
+        many, few, more, two = self.sectors(300), self.sectors(3), self.sectors(5), self.sectors(2)
+        names = {0: self.write(0, many + few + more + two)}
+        moved = [ZERO] * 16 + many + [ZERO] * 35 + more + [ZERO] * 16 + two + [ZERO] * (2348 - 374) + few
+        names[1] = self.write(1, moved)
+        self.assertEqual(shifts.distances(names, 0, 2600), Distances((Shift(0, 1, 16, 300),), (Shift(0, 1, 2048, 3), Shift(0, 1, 48, 5))))
 
     def test_twice(self) -> None:
         """What is on an image twice tells no distance, though it is on another one once."""
         table = self.sectors(20)
         names = {0: self.write(0, table + self.sectors(9) + table), 1: self.write(1, self.sectors(5) + table)}
-        self.assertEqual(shifts.shifts(names, 0, 60), [])
+        self.assertEqual(self.told(names, 0, 60), [])
 
     def test_places_in_later_blocks(self) -> None:
         """Places are those of the image, in whatever block it is read."""
@@ -96,6 +117,20 @@ class Told(unittest.TestCase):
         self.assertIsNone(shifts.potentials([Shift(0, 1, 8, 20), Shift(1, 2, 8, 30), Shift(0, 2, -8, 25)]))
         self.assertIsNone(shifts.potentials([Shift(0, 1, 8, 20), Shift(2, 3, 8, 30)]))
         self.assertIsNone(shifts.potentials([]))
+
+    def test_strongest(self) -> None:
+        """Of distances that do not agree those count that most sectors have; nothing of none."""
+        self.assertEqual(shifts.strongest([Shift(0, 1, 8, 20), Shift(1, 2, -24, 30), Shift(0, 2, -40, 25)]), {0: 40, 1: 24, 2: 0})
+        self.assertEqual(shifts.strongest([]), {})
+
+    def test_agree(self) -> None:
+        """Distances that might not agree and do; in a chain they cannot but agree, and of some images they say nothing of the others."""
+        ring = [Shift(0, 1, 8, 20), Shift(1, 2, -24, 30), Shift(0, 2, -16, 25)]
+        self.assertTrue(shifts.agree(ring, 3))
+        self.assertFalse(shifts.agree(ring[:2], 3))
+        self.assertFalse(shifts.agree(ring, 4))
+        self.assertFalse(shifts.agree([*ring, Shift(3, 4, 8, 20)], 4))
+        self.assertFalse(shifts.agree([Shift(0, 1, 8, 20), Shift(1, 2, 8, 30), Shift(0, 2, -8, 25)], 3))
 
     def test_apart(self) -> None:
         """Copies one chunk further on the next disk, as of a RAID 10 with the layout offset=2; far ones; beginnings are none."""

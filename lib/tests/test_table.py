@@ -3,7 +3,7 @@
 import unittest
 
 from reraid_try.checks.candidates import Inside
-from reraid_try.checks.verdicts import Verdict
+from reraid_try.checks.verdicts import Score, Verdict
 from reraid_try.checks.wholes import Wholes
 from reraid_try.evidence.images import Image
 from reraid_try.policy import cures
@@ -28,6 +28,9 @@ class Table(unittest.TestCase):
         unsound = Told()
         table.show(unsound, [candidate(verdict=whole(), unsound=7, chosen=(cures.misfits(),))], images)
         self.assertEqual(unsound.lines[1].split()[3:7], ["8", "misfits", "7", "unsound"])
+        sound = Told()
+        table.show(sound, [candidate(verdict=whole(), unsound=0)], images)
+        self.assertEqual(sound.lines[1].split()[:5], ["++", "0", SET, "nothing", "-"])
         none = Told()
         table.show(none, [], images)
         self.assertEqual(none.lines, ["no candidates"])
@@ -54,6 +57,22 @@ class Faulty(unittest.TestCase):
         self.assertEqual(told(25, 2, 3), (2, [f"23 more: {fault}", f"3 more: {nothing}"]))
         self.assertEqual(told(25, 25), (25, []))
         self.assertEqual(told(2, 2, 1), (2, [f"1 more: {nothing}"]))
+
+    def test_which_are_printed(self) -> None:
+        """Of more than 24 those of which something is known and no checker found fault, all of 24; what has faults by the order of all."""
+        broken, known = whole(False, 0), whole(None, 10)
+        self.assertEqual([candidate(verdict=it).score for it in (broken, known)], [Score.NOTHING, Score.KNOWN])
+        self.assertEqual(len(table.shown(False, [candidate(verdict=known)] * 2 + [candidate(verdict=broken)] * 22)[0]), 24)
+        self.assertEqual(len(table.shown(False, [candidate(verdict=known)] * 2 + [candidate(verdict=broken)] * 23)[0]), 2)
+        faults = [candidate(verdict=Verdict(broken.findings, Wholes(9, 0, longest))) for longest in (*range(1, 25), 0)]
+        self.assertEqual([number for number, _ in table.shown(False, faults)[0]], list(range(24)))
+
+    def test_how_many_there_are(self) -> None:
+        """Those that are not printed count too."""
+        report = Told()
+        found = [candidate(f"5:ls:none:8:{8 * number}:0,1,2", verdict=whole(False, 0)) for number in range(26)]
+        table.show(report, found, [Image(f"i{number}", number, 8000) for number in range(3)])
+        self.assertEqual([it["candidates"] for it in report.record.of("end")], [26])
 
     def test_those_with_the_longest_whole_file_first(self) -> None:
         many, long = (candidate(verdict=Verdict([], Wholes(9, count, longest))) for count, longest in ((9, 5), (1, 10)))

@@ -12,7 +12,7 @@ from reraid_try.calls.commands import Answer, Words
 from reraid_try.evidence import ties, unlike
 from reraid_try.evidence.families import Family
 from reraid_try.evidence.images import Image
-from reraid_try.evidence.shifts import Shift
+from reraid_try.evidence.shifts import Distances, Shift
 from reraid_try.evidence.ties import Ties
 
 from . import rows
@@ -123,7 +123,7 @@ class Told(unittest.TestCase):
         runner, images = disks(made)
         said = ties.lines(Ties(runner, images, 9).told(range(5), 0, 400))
         self.assertIn("1 disk of 5 is lost, counting one that is old or damaged", said[0])
-        self.assertEqual(said[1][:26], "image 3 is old or damaged:")
+        self.assertEqual(said[1][:44], "image 3 is old or damaged from sector 100 on")
         made = rows.striped(rnd, 4, 5, 400)
         for row in made[50:60]:
             row[0] = rows.sector(rnd)
@@ -131,6 +131,23 @@ class Told(unittest.TestCase):
         said = ties.lines(Ties(runner, images, 9).told(range(4), 0, 400))
         self.assertIn("in 10 rows of those that were looked at, the first at sector 50, nothing is tied: bad areas, one of the disks is old, or "
                       "parity was never made there", said[1])
+
+    def test_since_when_a_disk_is_old(self) -> None:
+        """Where rows are looked at that lie far apart, those before the first in which it is old say from which row on it is, of images that are
+        moved too; a row with zeros tells nothing."""
+        rnd = random.Random(13)
+        made = rows.striped(rnd, 5, 6, 3000)
+        for row in made[1207:]:
+            row[3] = rows.sector(rnd)
+        empty = [rows.sector(rnd), ZERO, ZERO, rows.sector(rnd), ZERO]
+        made[1206] = [*empty[:4], empty[0]]
+        runner, images = disks(made)
+        for offsets, since in (((), 1207), ((8, 8, 8, 8, 8), 1199)):
+            with mock.patch.object(ties, "MOST_ROWS", 100):
+                known, = Ties(runner, images, 9).told(range(5), 0, 2900, offsets).known
+            self.assertEqual([(it.image, it.first) for it in known.family.old], [(3, since)])
+        runner.answer = Answer(None)
+        self.assertEqual(Ties(runner, images, 9).since(known.family.old[0], known.family, 0, {}), known.family.old[0])
 
     def test_reshape(self) -> None:
         """Where rows are looked at that lie far apart, those between them say where a reshape stopped."""
@@ -179,29 +196,113 @@ class Told(unittest.TestCase):
 class UnlikeOffsets(unittest.TestCase):
     """Offsets that differ, by distances and by what ties the images then."""
 
-    def test_found(self) -> None:
-        """Of four disks of a RAID 5 two begin at 16, one at 64 and one at 32, where other volumes come before; distances tell of two pairs."""
-        rnd = random.Random(9)
-        made, starts = rows.striped(rnd, 4, 5, 400), (16, 16, 64, 32)
-        columns = {f"{number}.img": [ZERO] * start + [row[number] for row in made] + [ZERO] * (64 - start) for number, start in enumerate(starts)}
-        images = [Image(name, number, 464, first=(16, 16, 3, 5)[number]) for number, name in enumerate(columns)]
-        found = unlike.look(Ties(Standin(columns), images, 9), images, [Shift(0, 2, 48, 40), Shift(1, 3, 16, 30)], 464)
-        assert found
-        self.assertEqual((found.offsets, found.known.family.level, found.known.family.parity), (starts, "5", 1))
-        self.assertIn("16, 16, 64, 32", found.line())
+    starts = (16, 16, 64, 32)
 
-    def test_offsets_that_are_the_same(self) -> None:
-        """Images that all begin at one sector have no offsets of their own; of others the greatest beginning comes first."""
+    def array(self, made: list[rows.Row], first: Sequence[int] = (16, 16, 3, 5), before: int = 0) -> tuple[Ties, list[Image]]:
+        """Four disks with these rows, which two of them have from sector 16 on, one from 64 and one from 32, where other volumes come before that
+        begin alike. So many rows of zeros come before the others."""
+        rnd, same = random.Random(5), rows.sector(random.Random(6))
+        columns = {}
+        for number, start in enumerate(self.starts):
+            other = [same] * (first[number] < start) + [rows.sector(rnd) for _ in range(first[number] + 1, start)]
+            columns[f"{number}.img"] = [ZERO] * first[number] + other + [ZERO] * before + [row[number] for row in made]
+        longest = max(map(len, columns.values()))
+        columns = {name: (column + [ZERO] * longest)[:longest] for name, column in columns.items()}
+        images = [Image(name, number, longest, first=first[number]) for number, name in enumerate(columns)]
+        return Ties(Standin(columns), images, 90), images
+
+    def offsets(self, it: tuple[Ties, list[Image]], *told: Shift, weaker: Sequence[Shift] = (), named: Mapping[int, Sequence[int]] | None = None) \
+            -> list[tuple[int, ...]]:
+        """The offsets that are found by these distances, or by what a text names."""
+        ties_of, images = it
+        found = unlike.look(ties_of, images, Distances(tuple(told), tuple(weaker)), images[0].sectors, named or {})
+        self.known = found[0].known if found else None
+        return [one.offsets for one in found]
+
+    def test_found(self) -> None:
+        """Distances tell of two pairs, and where images begin to hold something how far these are apart."""
+        it = self.array(rows.striped(random.Random(9), 4, 5, 400))
+        self.assertEqual(self.offsets(it, Shift(0, 2, 48, 40), Shift(1, 3, 16, 30)), [self.starts, (0, 0, 48, 16)])
+        assert self.known
+        self.assertEqual((self.known.family.level, self.known.family.parity, self.known.begin), ("5", 1, 0))
+        self.assertEqual(unlike.Unlike(self.starts, self.known).line(),
+                         "the data begin at unlike sectors of the images, at which parity ties them: 16, 16, 64, 32")
+
+    def test_other_volumes_before_each(self) -> None:
+        """Where an image begins to hold something tells nothing where other volumes come before: parity tells where the data begin."""
+        it = self.array(rows.striped(random.Random(9), 4, 5, 400), (3, 3, 3, 3))
+        ring = Shift(0, 2, 48, 40), Shift(2, 3, -32, 30), Shift(1, 3, 16, 9)
+        self.assertEqual(self.offsets(it, *ring)[0], self.starts)
+        # Another distance, which chance made, does not agree.
+        self.assertEqual(self.offsets(it, *ring, Shift(0, 1, 8, 8))[0], self.starts)
+        # Image 3 is reached by a weaker distance alone, or begins as far on as another image, which it does not; or a text says where.
+        self.assertEqual(self.offsets(it, *ring[:1], Shift(0, 1, 0, 9), weaker=[Shift(0, 3, 24, 5), Shift(3, 1, -16, 4)])[0], self.starts)
+        self.assertEqual(self.offsets(it, *ring[:1], Shift(0, 1, 0, 9)), [])
+        self.assertEqual(self.offsets(it, *ring[:1], Shift(0, 1, 0, 9), named={0: (8, 16), 3: (3, 32)})[0], self.starts)
+        self.assertEqual(self.offsets(it, named=dict(enumerate(zip(self.starts, (3, 3, 3, 3)))))[0], self.starts)
+
+    def test_where_they_begin(self) -> None:
+        """Rows of zeros come first: where images begin to hold something, or a text names of most, or by what data usually begin at."""
+        it = self.array(rows.striped(random.Random(9), 4, 5, 400), before=24)
+        ring = Shift(0, 2, 48, 40), Shift(2, 3, -32, 30), Shift(1, 3, 16, 9)
+        self.assertEqual(self.offsets(it, *ring), [(40, 40, 88, 56), self.starts, (0, 0, 48, 16)])
+        self.assertEqual(self.offsets(it, *ring, named={0: (8, 16), 1: (16, 24), 2: (8, 64)}), [self.starts, (40, 40, 88, 56), (0, 0, 48, 16)])
+        images = it[1]
+        self.assertEqual(unlike.beginnings(images, (0, 0, 48, 16), 4099, {}), [4096, 16, 2048])
+        self.assertEqual(unlike.beginnings(images, (0, 0, 48, 16), 10251, {0: (16,)}), [16, 10248, 10240])
+
+    def test_same_beginning(self) -> None:
+        """Image 3 begins where another one does, which nothing shows but parity."""
+        made = rows.striped(random.Random(9), 4, 5, 400)
+        runner, images = disks(made)
+        columns = {name: [ZERO] * (24 * (number % 2)) + [row[number] for row in made] + [ZERO] * 24 for number, name in enumerate(runner.images)}
+        images = [Image(name, number, 424, first=2) for number, name in enumerate(columns)]
+        self.assertEqual(self.offsets((Ties(Standin(columns), images, 90), images), Shift(0, 1, 24, 40), Shift(0, 2, 0, 30)), [(0, 24, 0, 24)])
+
+    def lost(self) -> tuple[Ties, list[Image]]:
+        """The disks of a level 5 that lacks one, most rows of which are full."""
+        return self.array(rows.without(rows.striped(random.Random(3), 5, 5, 400, sparse=0.45), 4))
+
+    def test_a_disk_is_lost(self) -> None:
+        """Few rows are tied: that is believed where distances agree that might not, and not else."""
+        it, ring = self.lost(), (Shift(0, 2, 48, 40), Shift(2, 3, -32, 30), Shift(1, 3, 16, 9), Shift(0, 1, 0, 9))
+        self.assertEqual(self.offsets(it, *ring[:3]), [])
+        found = self.offsets(it, *ring)
+        assert self.known
+        self.assertEqual((found[0], self.known.family.parity, self.known.family.lost), (self.starts, 0, 1))
+
+    def test_time(self) -> None:
+        """No way is asked about where the sixth part of a trial's time is up."""
+        it = self.array(rows.striped(random.Random(9), 4, 5, 400))
+        it[0].seconds = -1
+        self.assertEqual(self.offsets(it, Shift(0, 2, 48, 40), Shift(1, 3, 16, 30)), [])
+
+    def test_ways(self) -> None:
+        """That all begin at one sector is no way; without distances where images begin to hold something tells."""
         images = [Image(f"{number}.img", number, 464, first=first) for number, first in enumerate((16, 16, 70))]
-        self.assertEqual(unlike.ways(images[:2], []), [])
-        self.assertEqual(unlike.ways(images, []), [(16, 16, 64)])
-        self.assertEqual(unlike.ways(images[:2], [Shift(0, 1, 8, 40)]), [(16, 24), (8, 16)])
+        self.assertEqual(unlike.ways(images[:2], Distances(), {}), [])
+        self.assertEqual(unlike.ways(images, Distances(weaker=(Shift(0, 2, 8, 9),)), {}), [(0, 0, 48)])
+        self.assertEqual(unlike.ways(images[:2], Distances((Shift(0, 1, 8, 40),)), {}), [(0, 8)])
+        # The likely ones of each part come first, and no more than so many ways.
+        self.assertEqual(list(unlike.chosen([[1, 2], [3, 4, 5]], 1)), [(1, 4), (2, 3)])
+        self.assertEqual(list(unlike.chosen([[1, 2], [3, 4, 5]], 3)), [(2, 5)])
+        many = [Image(f"{number}.img", number, 464, first=8 * number) for number in range(9)]
+        self.assertEqual(len(unlike.ways(many, Distances((Shift(0, 1, 8, 40),)), {})), unlike.MOST_WAYS)
+
+    def test_guessed(self) -> None:
+        """Distances that agree say the offsets, with the beginning that an image tells; not where they say nothing of one image or one number."""
+        images = [Image(f"{number}.img", number, 464, first=first) for number, first in enumerate((16, 3, 70))]
+        self.assertEqual(unlike.guessed(images, [Shift(0, 1, 8, 40), Shift(1, 2, 8, 30)]), (48, 56, 64))
+        self.assertEqual(unlike.guessed(images, [Shift(0, 1, 80, 40), Shift(1, 2, 80, 30)]), (16, 96, 176))
+        self.assertEqual(unlike.guessed(images, [Shift(0, 1, 8, 40)]), ())
+        self.assertEqual(unlike.guessed(images, [Shift(0, 1, 0, 40), Shift(1, 2, 0, 30)]), ())
+        self.assertEqual(unlike.guessed(images, []), ())
 
     def test_none(self) -> None:
         """Where nothing ties the images at unlike offsets either, none are told."""
         rnd = random.Random(10)
         runner, images = disks([[rows.sector(rnd) for _ in range(3)] for _ in range(300)])
-        self.assertIsNone(unlike.look(Ties(runner, images, 9), images, [Shift(0, 1, 8, 40)], 300))
+        self.assertEqual(self.offsets((Ties(runner, images, 9), images), Shift(0, 1, 8, 40)), [])
 
 
 if __name__ == "__main__":

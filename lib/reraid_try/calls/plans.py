@@ -6,9 +6,12 @@ from collections.abc import Collection, Mapping
 from ..errors import OutsideError
 from ..units import counted
 
-FIELDS = ("levels", "members", "patterns", "syndromes", "chunks", "offsets", "origins", "missing", "foreign", "badrows", "window", "misfits",
-          "least")
-# Version 2: each image has an offset of its own. Version 3 says that in a line of its own, and a group may have bounds of its own there.
+FIELDS = ("levels", "members", "patterns", "delays", "syndromes", "chunks", "offsets", "origins", "missing", "foreign", "badrows", "window",
+          "misfits", "least")
+# For how many rows parity stays where nothing else is asked for, of which a plan has no line.
+DELAYS, NO_DELAY = "delays", "1"
+# Version 2: each image has an offset of its own. Version 3 says that in a line of its own, and there parity may stay for several rows, and a group
+# may have bounds of its own.
 COMMON, EACH, BOUNDED = 1, 2, 3
 MODES = {COMMON: "common", EACH: "each"}
 
@@ -81,7 +84,7 @@ class Group:
 @dataclasses.dataclass(frozen=True)
 class Plan:
     """A plan: lengths of the images, `end`, the values of the other lines by their names, and the groups. `version` is 2 where each image has an
-    offset of its own and 1 else, also of a plan whose text is of version 3 for the bounds of its groups."""
+    offset of its own and 1 else, also of a plan whose text is of version 3 for its delays or the bounds of its groups."""
 
     version: int
     lengths: tuple[int, ...]
@@ -94,11 +97,12 @@ class Plan:
         return [int(number) for number in self.values[name].split(",")]
 
     def text(self) -> str:
-        """The plan as `list` and `check` read it: of version 3 only where a group has bounds of its own."""
-        bounded = any(group.bounds for group in self.groups)
+        """The plan as `list` and `check` read it: of version 3 only where parity may stay for several rows, or a group has bounds of its own."""
+        delayed = self.values.get(DELAYS, NO_DELAY) != NO_DELAY
+        bounded = delayed or any(group.bounds for group in self.groups)
         head = [f"reraid-plan {BOUNDED}", f"mode {MODES[self.version]}"] if bounded else [f"reraid-plan {self.version}"]
         lines = [*head, f"images {len(self.lengths)}", *(f"length {length}" for length in self.lengths), f"end {self.end}"]
-        lines += [f"{name} {self.values[name]}" for name in FIELDS]
+        lines += [f"{name} {self.values[name]}" for name in FIELDS if name != DELAYS or delayed]
         return "\n".join(lines) + "\n" + "".join(group.text() for group in self.groups) + "done\n"
 
     def having(self, **values: str | int) -> "Plan":

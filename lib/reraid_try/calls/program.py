@@ -65,17 +65,13 @@ class Program:
             raise refused(answer, "list")
         return total
 
-    def page(self, text: str, first: int = 0, span: int = LAST, most: int = MOST_LINES) -> Page:
-        """One page of a plan; what of it was put, where its time was up."""
+    def page(self, text: str, first: int = 0, span: int = LAST, most: int = MOST_LINES, seconds: int | None = None) -> Page:
+        """One page of a plan; what of it was put, where its time was up, which is that of a trial where nothing else is said."""
         words = ["reraid", "list", f"from={first}", f"span={span}", f"size={most}", "--", *self.names]
-        answer = self.commands.run(words, text, self.seconds)
+        answer = self.commands.run(words, text, self.seconds if seconds is None else seconds)
         if answer.status:
             raise refused(answer, "list")
         return formats.read_page(answer)
-
-    def first(self, text: str) -> Page:
-        """The first set of a plan that passes."""
-        return self.page(text, most=1)
 
     def listing(self, plan: Plan) -> Listing:
         """The sets of a plan that pass, by spans side by side where there are many."""

@@ -52,6 +52,8 @@ class Level:
 LEVELS = {"0": Level(0, 2), "5": Level(1, 3), "6": Level(2, 4)}
 # Patterns whose Q stands on the last slot, behind those of level 5.
 LAST_Q = "-6"
+# What stands between a pattern and for how many rows parity stays before it moves on, where that is more than one.
+STAYS = "*"
 # The patterns whose data are numbered from the slot behind Q on, so that these two orders of Q are one.
 SYMMETRIC, BY_DATA, AFTER_Q = ("ls", "rs"), "by-data", "after-q"
 # The slot that has all parity at level 5, and all Q at level 6, for the patterns that have such a one.
@@ -61,7 +63,8 @@ FIXED_Q = {"parity-first": 1, "parity-last": -1}
 
 @dataclasses.dataclass(frozen=True)
 class Word:
-    """A set word, taken apart. `slots` has None where a slot is empty; of RAID 10 pattern and order are empty."""
+    """A set word, taken apart. `pattern` has for how many rows parity stays, where that is more than one; `slots` has None where a slot is empty; of
+    RAID 10 pattern and order are empty."""
 
     text: str
     level: str
@@ -75,6 +78,16 @@ class Word:
     def copying(self) -> Copying | None:
         """The layout of a RAID 10; None of others."""
         return read_copying(self.level)
+
+    @property
+    def rotation(self) -> str:
+        """Its pattern, whatever rows parity stays for."""
+        return self.pattern.partition(STAYS)[0]
+
+    @property
+    def delay(self) -> int:
+        """For how many rows of chunks parity stays before it moves on."""
+        return int(self.pattern.partition(STAYS)[2] or 1)
 
     @property
     def is_mirrored(self) -> bool:
@@ -163,6 +176,11 @@ class Word:
         return read_word(":".join([*parts[:-2], str(self.offset), parts[-1]]))
 
 
+def staying(rotation: str, delay: int) -> str:
+    """A pattern whose parity stays for so many rows."""
+    return f"{rotation}{STAYS}{delay}" if delay > 1 else rotation
+
+
 def without_slot(word: Word, slot: int, level: str, pattern: str) -> Word | None:
     """The set of a lower level without one slot, which is empty; None where the slot is not, or that level has more members."""
     slots = word.slots[:slot] + word.slots[slot:][1:]
@@ -174,8 +192,8 @@ def without_slot(word: Word, slot: int, level: str, pattern: str) -> Word | None
 def lower(word: Word) -> Word | None:
     """The set of the next lower level that has the same volume whatever the images hold: a RAID 5 in place of a RAID 6 whose Q stood on one disk
     that is missing, a RAID 0 in place of a RAID 5 whose parity did; None for most."""
-    if word.level == "6" and word.pattern.endswith(LAST_Q):
-        return without_slot(word, len(word.slots) - 1, "5", word.pattern.removesuffix(LAST_Q))
+    if word.level == "6" and word.rotation.endswith(LAST_Q):
+        return without_slot(word, len(word.slots) - 1, "5", staying(word.rotation.removesuffix(LAST_Q), word.delay))
     if word.level == "6" and word.pattern in FIXED_Q:
         return without_slot(word, FIXED_Q[word.pattern] % len(word.slots), "5", word.pattern)
     if word.level == "5" and word.pattern in FIXED_P:
@@ -188,7 +206,7 @@ def simplest(word: Word) -> Word:
     disks alike the first."""
     while (found := lower(word)) is not None:
         word = found
-    if word.level == "6" and word.pattern in SYMMETRIC and word.order == BY_DATA:
+    if word.level == "6" and word.rotation in SYMMETRIC and word.order == BY_DATA:
         return made(word.level, word.pattern, AFTER_Q, word.chunk, word.offsets, word.slots)
     return word
 

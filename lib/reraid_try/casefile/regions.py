@@ -27,8 +27,7 @@ class Region:
 def turn(word: Word) -> int:
     """After so many sectors of each member parity stands on the same slots again, whatever the pattern."""
     members = len(word.slots)
-    delay = word.pattern.partition("*")[2]
-    return members * max(1, members - 1) * word.chunk * (int(delay) if delay.isdecimal() else 1)
+    return members * max(1, members - 1) * word.chunk * word.delay
 
 
 def cut(word: Word, end: int) -> list[tuple[int, int]]:

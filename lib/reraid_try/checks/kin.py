@@ -4,7 +4,7 @@ import collections
 import dataclasses
 from collections.abc import Hashable, Mapping, Sequence
 
-from ..calls.sets import LAST_Q, Word, simplest
+from ..calls.sets import LAST_Q, STAYS, Word, simplest
 from ..evidence.images import Image
 from ..policy.plans import LEAST_BAD, MOST_BAD
 from ..units import SECTOR, counted
@@ -79,12 +79,15 @@ def rows_behind(inner: Key, outer: Key) -> int:
     if len(inner.layout) == 1 or rest or rows < 1:
         return 0
     _, pattern, order = inner.layout
+    pattern, _, delay = pattern.partition(STAYS)
+    # Where parity stays for several rows it is where it would be so many times as early.
+    moves, rest = divmod(rows, int(delay or 1))
     # Q by slot weighs the disks in another way where their order is turned.
     turns = TURNS if order != BY_SLOT else {}
     count = len(inner.slots)
-    if pattern not in FIXED and pattern not in turns and rows % (count - pattern.endswith(LAST_Q)):
+    if rest or pattern not in FIXED and pattern not in turns and moves % (count - pattern.endswith(LAST_Q)):
         return 0
-    turn = turns.get(pattern, 0) * rows % count
+    turn = turns.get(pattern, 0) * moves % count
     return rows if inner.slots == outer.slots[turn:] + outer.slots[:turn] else 0
 
 

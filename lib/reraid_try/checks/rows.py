@@ -1,12 +1,15 @@
 """The rows of a set: in which of them parity holds, and up to which the marks fit."""
 
 import dataclasses
-from collections.abc import Sequence
+from collections.abc import Iterable, Sequence
+from fractions import Fraction
 
 from ..calls.formats import Checked, Held
 from ..calls.plans import Plan
+from ..calls.program import Program
 from ..calls.sets import Word, read_word
 from ..calls.surveys import Request
+from ..evidence.images import Image
 from ..halving import halved
 from ..policy.hunt import Hunt
 from ..units import counted
@@ -14,8 +17,9 @@ from .candidates import Candidate
 
 # The rows of a set that takes longer to test, in seconds, are not looked for.
 SLOW = 3
-# A set with more than one in so many filled rows unsound has no image that is but old or damaged.
-MOST_OLD = 2
+# A set with more than one in so many filled rows unsound has no image that is but old or damaged; of an image that ties name as old so much of the
+# filled rows may be.
+MOST_OLD, MOST_STALE = 2, Fraction(9, 10)
 # So many marks fit before a row, and so many do not behind it, where an array was reshaped up to there.
 LEAST_TURNED = 3
 
@@ -105,10 +109,10 @@ class Old:
 
     def text(self, names: Sequence[str]) -> str:
         """What is said of it."""
-        where = f", the first of them row {self.bounds.first}" if self.bounds.first is not None else ""
+        since = f" from row {self.bounds.first} on" if self.bounds.first is not None else ""
         rebuilt = "; perhaps it was being rebuilt, up to there" if self.bounds.first and self.to_end else ""
-        return (f"{names[self.image]} is old or damaged: as slot {self.slot} parity holds with it in all rows but {self.told.unsound} of "
-                f"{self.told.rows}{where}{rebuilt}")
+        return (f"{names[self.image]} is old or damaged{since}: as slot {self.slot} parity holds with it in all rows but {self.told.unsound} of "
+                f"{self.told.rows}{rebuilt}")
 
 
 @dataclasses.dataclass(frozen=True)
@@ -127,21 +131,24 @@ class Turned:
 
 
 class Rows:
-    """The rows of the sets of a hunt."""
+    """The rows of the sets of a hunt, or of those with one image more, which stands behind its own."""
 
-    def __init__(self, hunt: Hunt) -> None:
-        self.hunt = hunt
+    def __init__(self, hunt: Hunt, more: Image | None = None) -> None:
+        self.hunt, self.more, self.program = hunt, more, hunt.program
+        if more:
+            asked = hunt.program
+            self.program = Program(asked.commands, [*asked.names, more.name], asked.seconds, asked.jobs)
 
     def ask(self, near: Near) -> bool:
         """What `check` says of a set; it says whether that was answered."""
-        told = self.hunt.program.check(near.word, near.plan)
+        told = self.program.check(near.word, near.plan)
         near.told = told or near.told
         return told is not None
 
     def row_of(self, near: Near, wanted: int) -> int | None:
         """The row with which so many rows are unsound."""
         def holds(rows: int) -> bool | None:
-            told = self.hunt.program.check(near.word, near.plan.having(window=rows))
+            told = self.program.check(near.word, near.plan.having(window=rows))
             return None if told is None else told.unsound >= wanted
         found = halved(0, near.told.rows, holds)
         return None if found is None else found - 1
@@ -167,29 +174,39 @@ class Rows:
     def window(self, request: Request) -> Plan:
         """The plan of a request over the whole window, by parity alone."""
         plan = self.hunt.surveys.plan(request).bare().having(window=self.hunt.evidence.window, badrows=0)
-        return dataclasses.replace(plan, end=self.hunt.evidence.end)
+        more = (self.more.sectors,) if self.more else ()
+        return dataclasses.replace(plan, lengths=(*plan.lengths, *more), end=min(self.hunt.evidence.end, *more, plan.end))
 
-    def old(self, candidate: Candidate) -> list[Old]:
-        """The images in no slot of a candidate that belong into one that is empty, and are old or damaged."""
+    def old(self, candidate: Candidate, stale: Iterable[Image] = ()) -> list[Old]:
+        """The images in no slot of a candidate that belong into one that is empty, and are old or damaged; `stale` are images that ties name as old,
+        which the hunt has not."""
         word, request = candidate.listed, candidate.trial.request
         if word is None or request is None or candidate.word.is_mirrored or not word.lost or len(word.offsets) > 1:
             return []
-        found = []
-        for image in sorted(set(range(len(self.hunt.evidence.images))) - set(word.images)):
-            for slot in (place for place, it in enumerate(word.slots) if it is None):
-                with_it = word.having(tuple(image if place == slot else it for place, it in enumerate(word.slots)))
-                found += self.old_at(with_it, image, slot, request)
+        images, found = self.hunt.evidence.images, list[Old]()
+        for place in sorted(set(range(len(images))) - set(word.images)):
+            found += self.at_slots(word, place, images[place], request, Fraction(1, MOST_OLD))
+        for image in stale:
+            slots = Rows(self.hunt, image).at_slots(word, len(images), image, request, MOST_STALE)
+            found += sorted(slots, key=lambda it: it.told.unsound)[:1]
         return found
 
-    def old_at(self, word: Word, image: int, slot: int, request: Request) -> list[Old]:
-        """This image, where parity holds with it in most of the filled rows of a set, and not in all."""
+    def at_slots(self, word: Word, place: int, image: Image, request: Request, most: Fraction) -> list[Old]:
+        """This image, by its place in the hunt, in each empty slot of a set in which parity holds with it in all but so much of the filled rows."""
+        found = []
+        for slot in (slot for slot, it in enumerate(word.slots) if it is None):
+            found += self.old_at(word.having((*word.slots[:slot], place, *word.slots[slot + 1:])), image, slot, request, most)
+        return found
+
+    def old_at(self, word: Word, image: Image, slot: int, request: Request, most: Fraction) -> list[Old]:
+        """This image, where parity holds with it in all but so much of the filled rows of a set, and not in all."""
         near = Near(word.text, self.window(request))
-        if word.spare < 1 or not self.ask(near) or not 0 < MOST_OLD * near.told.unsound < self.hunt.evidence.filled:
+        if word.spare < 1 or not self.ask(near) or not 0 < near.told.unsound < most * self.hunt.evidence.filled:
             return []
         bounds, images = self.bounds(near), self.hunt.evidence.images
-        lasts = [last for other in word.images if other != image and (last := images[other].last) is not None]
+        lasts = [it.last for place, it in enumerate(images) if place in word.images and it.number != image.number and it.last is not None]
         to_end = bounds.last is not None and bool(lasts) and max(lasts) - word.offset <= bounds.last + word.chunk
-        return [Old(images[image].number, slot, near.told, bounds, to_end)]
+        return [Old(image.number, slot, near.told, bounds, to_end)]
 
     def turned(self, near: Near) -> Turned | None:
         """The row before which the marks of a group fit and behind which none does; None for most sets."""

@@ -13,6 +13,8 @@ from .relations import Relations, Rows, Tie
 LEAST_TIED, FEW_TIED = 4, 50
 # An image that no such ties hold belongs to a family that few rows tie, where it has one in so many ties of the family with an image of it.
 FEW_OF_FAMILY = 10
+# Two arrays that hold the same at some places are tied apart in so many times as many rows at least as across.
+PART_ACROSS = 2
 # So much of what is tied has weights of 1 alone at level 5. A number of ties that one in so many rows has, and not most, is possible too.
 PART_PLAIN, FEW_OTHER = Fraction(4, 5), 10
 # Where so few rows have no image of zeros, all others count: so many ties as nearly all of them have are those of parity.
@@ -39,8 +41,14 @@ class Old:
 
     def line(self, name: str) -> str:
         """What is said of it."""
-        return (f"{name} is old or damaged: in {self.rows} of the rows that were looked at, the first at sector {self.first}, the others go together "
+        return (f"{name} is old or damaged from sector {self.first} on: in {self.rows} of the rows that were looked at the others go together "
                 "without it")
+
+    def closer(self, relations: Relations, images: frozenset[int]) -> "Old":
+        """The same, by the rows just before the first one, which lie closer to each other; `images` are those of the family."""
+        found = (rows.first for rows in relations.tied_rows() if not rows.zero & images
+                 and tied_images(ties_among(rows, images)) == images - {self.image})
+        return dataclasses.replace(self, first=min(found, default=self.first))
 
 
 @dataclasses.dataclass(frozen=True)
@@ -63,6 +71,12 @@ class Reshape:
                 f"the second on {len(self.after)}, without image {out}. A reshape that stopped there does so; so does an older array of the "
                 f"{len(self.after)} behind what a newer one wrote, or image {out} if it is no member and holds what members hold, as a journal may" +
                 f"; and so does image {out}, which is zeros there, if nothing is stored on it there" * self.empty)
+
+    def short(self) -> str:
+        """What is said of it at the end, where no volume has a sign."""
+        return (f"perhaps a reshape stopped between sector {self.last} and sector {self.sector}, of {len(self.after)} disks to {len(self.before)}, "
+                "as was said: then no one set has the whole volume. What stands up to there is of the one array, and what stands behind it of the "
+                "other")
 
     def closer(self, relations: Relations) -> "Reshape":
         """The same by rows between the two, which lie closer to each other."""
@@ -192,7 +206,30 @@ def belonging(relations: Relations, images: frozenset[int]) -> list[frozenset[in
     """The sets of images that belong together, the largest first."""
     tied, there = pair_counts(relations, images)
     strong = [pair for pair, count in tied.items() if count >= LEAST_TIED and FEW_TIED * count >= there[pair]]
-    return sorted(connected([*strong, *joining(tied, connected(strong))]), key=lambda it: (-len(it), sorted(it)))
+    found = connected([*strong, *joining(tied, connected(strong))])
+    return sorted((part for it in found for part in parted(relations, it, tied)), key=lambda it: (-len(it), sorted(it)))
+
+
+def parted(relations: Relations, images: frozenset[int], tied: Mapping[tuple[int, int], int]) -> list[frozenset[int]]:
+    """The parts of images that belong together, where rows tie those of each part by themselves and few tie them across, as those of two arrays do
+    that hold the same at some places. `tied` has in how many rows ties connect two images."""
+    found: collections.Counter[frozenset[frozenset[int]]] = collections.Counter()
+    for rows in relations.tied_rows():
+        found[frozenset(part for it in rows.tied() if len(part := it & images) > 1)] += relations.count(rows)
+    several = next((parts for parts, _ in found.most_common() if len(parts) > 1), frozenset())
+    if not several:
+        return [images]
+    parts = sorted(several, key=sorted)
+    for image in sorted(images - frozenset().union(*parts)):
+        near = max(range(len(parts)), key=lambda place: sum(tied.get((min(image, it), max(image, it)), 0) for it in parts[place]))
+        parts[near] |= {image}
+
+    def is_across(it: frozenset[int]) -> bool:
+        """Images of two parts are tied."""
+        return not any(it <= part for part in parts)
+    across = sum(count for rows, count in found.items() if any(map(is_across, rows)))
+    apart = sum(count for rows, count in found.items() if len(rows) > 1 and not any(map(is_across, rows)))
+    return parts if PART_ACROSS * across <= apart else [images]
 
 
 def joining(tied: Mapping[tuple[int, int], int], found: Sequence[frozenset[int]]) -> Iterator[tuple[int, int]]:

@@ -212,8 +212,9 @@ def part_of(body: lvm.Folder, physical: Mapping[str, lvm.Folder], extent: int) -
     return str(volume["id"]).replace("-", ""), lvm.number(volume, "pe_start") + int(stripes[1]) * extent
 
 
-def examine_lvm(labels: Mapping[int, int], names: Mapping[int, str]) -> list[Member]:
-    """What the text of LVM2 says of images by their numbers, on which a physical volume begins at these sectors."""
+def physical(labels: Mapping[int, int], names: Mapping[int, str]) -> tuple[dict[str, tuple[int, int]], list[str]]:
+    """Of images by their numbers, on which a physical volume begins at these sectors, the image and that sector by the identifier of each label, and
+    the text of each."""
     volumes: dict[str, tuple[int, int]] = {}
     texts = []
     for image, start in labels.items():
@@ -222,8 +223,52 @@ def examine_lvm(labels: Mapping[int, int], names: Mapping[int, str]) -> list[Mem
         if label >= 0:
             volumes[area[label + 32:label + 64].decode("ascii", "replace")] = image, start
             texts.append(newest(area))
+    return volumes, texts
+
+
+def examine_lvm(labels: Mapping[int, int], names: Mapping[int, str]) -> list[Member]:
+    """What the text of LVM2 says of images by their numbers, on which a physical volume begins at these sectors."""
+    volumes, texts = physical(labels, names)
     found = {member for text in texts for volume in raid_volumes(text) for member in volume.members(volumes)}
     return sorted(found, key=lambda it: (it.array, it.slot or 0, it.image))
+
+
+def lvm_starts(labels: Mapping[int, int], names: Mapping[int, str]) -> dict[int, tuple[int, ...]]:
+    """The sectors of images by their numbers, on which a physical volume begins at these sectors, at which the text of LVM2 says that parts of
+    logical volumes begin, of whatever type these are."""
+    volumes, texts = physical(labels, names)
+    found: dict[int, set[int]] = collections.defaultdict(set)
+    for text in texts:
+        for volume, first in segments_of(text):
+            if volume in volumes:
+                image, start = volumes[volume]
+                found[image].add(start + first)
+    return {image: tuple(sorted(starts)) for image, starts in sorted(found.items())}
+
+
+def starts_line(name: str, starts: Sequence[int]) -> str:
+    """What is said of where parts begin on an image."""
+    return f"metadata on {name} say (LVM2): parts of volumes begin at {'sector' if len(starts) == 1 else 'sectors'} {', '.join(map(str, starts))}"
+
+
+def segments_of(text: str) -> list[tuple[str, int]]:
+    """The identifier of a physical volume and a sector on it for each part of a logical volume that a text of LVM2 names; none where it is none."""
+    try:
+        groups = [group for group in map(lvm.folder, lvm.read_text(text).values()) if "physical_volumes" in group]
+        return [it for group in groups[:1] for it in stripes_of(group)]
+    except (KeyError, ValueError, IndexError, StopIteration):
+        return []
+
+
+def stripes_of(group: lvm.Folder) -> Iterator[tuple[str, int]]:
+    """The same of a group."""
+    extent, there = lvm.number(group, "extent_size"), {key: lvm.folder(value) for key, value in lvm.folder(group["physical_volumes"]).items()}
+    for body in lvm.folder(group.get("logical_volumes")).values():
+        for segment in (lvm.folder(it) for key, it in lvm.folder(body).items() if lvm.SEGMENT.fullmatch(key)):
+            stripes = segment.get("stripes")
+            for name, place in zip(stripes[::2], stripes[1::2]) if isinstance(stripes, list) else ():
+                if name in there:
+                    yield str(there[name]["id"]).replace("-", ""), lvm.number(there[name], "pe_start") + int(place) * extent
 
 
 def newest(area: bytes) -> str:

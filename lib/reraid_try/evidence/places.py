@@ -11,7 +11,7 @@ import functools
 from collections.abc import Callable, Iterable, Iterator, Mapping, Sequence
 from fractions import Fraction
 
-from ..calls.sets import LEVELS, Word, made
+from ..calls.sets import LEVELS, Word, made, staying
 from .families import LEVEL_5, ties_among
 from .relations import Relations
 
@@ -107,11 +107,12 @@ class Placement:
     against: int
     rows: int
 
-    def words(self, level: str, numbers: Mapping[int, int], offsets: tuple[int, ...] = ()) -> Iterator[str]:
-        """The sets of it, with other numbers for the images, and with offsets of their own where there are some."""
+    def words(self, level: str, numbers: Mapping[int, int], offsets: tuple[int, ...] = (), delay: int = 1) -> Iterator[str]:
+        """The sets of it, with other numbers for the images, and with offsets of their own where there are some. With a delay parity stays for so
+        many rows of chunks that are as much shorter."""
         slots = tuple(None if image is None else numbers[image] for image in self.slots)
         for pattern, order in self.turn.patterns:
-            yield made(level, pattern, order, self.chunk, offsets or (self.offset,), slots).text
+            yield made(level, staying(pattern, delay), order, self.chunk // delay, offsets or (self.offset,), slots).text
 
 
 def joined(gaps: Iterable[range]) -> list[range]:
@@ -181,11 +182,11 @@ class Places:
     def against(self, word: Word) -> Fraction | None:
         """Which part of the rows speaks against a set; None where too little is known of it, as where it leaves out one of the images, which may
         hold what ties the others."""
-        turn = self.turn_of(word.pattern)
+        turn = self.turn_of(word.rotation)
         alike = (word.level, len(word.slots)) == (self.level, self.members) and set(word.images) == set(self.images)
         if turn is None or word.is_each or not self.told or not alike:
             return None
-        costs = self.costs(turn, word.chunk, word.offset)
+        costs = self.costs(turn, word.chunk * word.delay, word.offset)
         if costs.rows < LEAST_ROWS:
             return None
         return Fraction(costs.of([None if image is None else self.images.index(image) for image in word.slots]), costs.rows)

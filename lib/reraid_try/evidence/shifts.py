@@ -14,12 +14,15 @@ from .families import connected
 
 SECTOR = 512
 STEP = 1 << 20
-# So many sectors of an image are taken at most, about, and so many bytes of it are read.
-MOST_TAKEN, MOST_READ = 1 << 16, 1 << 30
+# So many sectors of an image are taken at most, about, and so many bytes of it are read, and of all images, which takes some seconds.
+MOST_TAKEN, MOST_READ, MOST_OF_ALL = 1 << 16, 1 << 30, 1 << 31
 # A distance tells where so many sectors have it, and one in so many of all that two images have in common.
 # A weak one is so many times as frequent as the next.
 LEAST_SHOWN, FEW, CLEARLY = 12, 5, 2
 MOST_CHUNK = 32768
+# Beside what tells, of two images so many distances are kept that so many sectors have, for where parity is to say which is right. Partitions and
+# logical volumes begin multiples of so many sectors apart.
+MOST_WEAKER, LEAST_WEAKER, WHOLE = 3, 3, 2048
 # Data begin at a multiple of so many sectors, and a chunk of md has no fewer: equal files lie apart by any number.
 ALIGNED = 8
 
@@ -32,6 +35,15 @@ class Shift:
     other: int
     distance: int
     shown: int
+
+
+@dataclasses.dataclass(frozen=True)
+class Distances:
+    """The distances between images that tell, and weaker ones, of which chance may be the reason; of these multiples of `WHOLE` first, and then those
+    that most sectors have."""
+
+    told: tuple[Shift, ...] = ()
+    weaker: tuple[Shift, ...] = ()
 
 
 def sectors_of(block: bytes) -> Iterator[tuple[int, bytes]]:
@@ -60,51 +72,73 @@ def taken(name: str, first: int, last: int, every: int) -> dict[int, int]:
     return {value: place for value, place in found.items() if value not in twice}
 
 
+def frequent(one: Mapping[int, int], other: Mapping[int, int]) -> list[tuple[int, int]]:
+    """The distances of the common contents that are multiples of `ALIGNED`, and how many have each; the most frequent first."""
+    counted = (other[value] - place for value, place in one.items() if value in other)
+    return collections.Counter(distance for distance in counted if distance % ALIGNED == 0).most_common()
+
+
 def shift(one: Mapping[int, int], other: Mapping[int, int], weak: bool = False) -> tuple[int, int] | None:
     """The distance that most of the common contents have of those that are multiples of `ALIGNED`, and how many have it; None where too few agree. A
     weak one is but twice as frequent as the next."""
-    counted = (other[value] - place for value, place in one.items() if value in other)
-    distances = collections.Counter(distance for distance in counted if distance % ALIGNED == 0)
+    distances = frequent(one, other)
     if not distances:
         return None
-    (distance, shown), *more = distances.most_common(2)
-    told = FEW * shown >= sum(distances.values()) or weak and shown >= CLEARLY * more[0][1]
+    (distance, shown), *more = distances
+    told = FEW * shown >= sum(count for _, count in distances) or weak and shown >= CLEARLY * more[0][1]
     return (distance, shown) if shown >= LEAST_SHOWN and told else None
 
 
-def shifts(names: Mapping[int, str], first: int, last: int) -> list[Shift]:
+def distances(names: Mapping[int, str], first: int, last: int) -> Distances:
     """The distances between each two of some images, by their numbers, in what is read of them from one sector to before another. An image that
     cannot be read raises `OSError`."""
-    last = min(last, first + MOST_READ // SECTOR)
+    last = min(last, first + min(MOST_READ, MOST_OF_ALL // max(1, len(names))) // SECTOR)
     every = max(1, (last - first) // MOST_TAKEN)
     places = {image: taken(name, first, last, every) for image, name in names.items()}
+    pairs = [(one, other) for one, other in itertools.permutations(names, 2) if one < other]
     found: list[Shift] = []
     for weak in (False, True):
         # A weak distance tells of images alone that no other one connects.
         joined = connected((it.one, it.other) for it in found)
-        found += [Shift(one, other, *told) for one, other in itertools.permutations(names, 2) if one < other
-                  and not any({one, other} <= part for part in joined) and (told := shift(places[one], places[other], weak))]
-    return found
+        found += [Shift(one, other, *told) for one, other in pairs if not any({one, other} <= part for part in joined)
+                  and (told := shift(places[one], places[other], weak))]
+    weaker = [Shift(one, other, distance, shown) for one, other in pairs
+              for distance, shown in frequent(places[one], places[other])[:MOST_WEAKER] if shown >= LEAST_WEAKER]
+    known = {(it.one, it.other, it.distance) for it in found}
+    weaker = [it for it in weaker if (it.one, it.other, it.distance) not in known]
+    return Distances(tuple(found), tuple(sorted(weaker, key=lambda it: (it.distance % WHOLE > 0, -it.shown))))
 
 
 def potentials(found: Sequence[Shift]) -> dict[int, int] | None:
     """How much further the data of each image begin than those of the image where they begin first, where all distances agree on that; None where
     they do not, as with copies that lie elsewhere on the next disk, or where not all images are reached from each other."""
+    places = strongest(found)
+    images = {image for it in found for image in (it.one, it.other)}
+    if set(places) != images or any(places[it.other] - places[it.one] != it.distance for it in found):
+        return None
+    return places or None
+
+
+def strongest(found: Sequence[Shift]) -> dict[int, int]:
+    """How much further the data of each image begin than those of the image where they begin first, by the distances that most sectors have of those
+    by which each image is reached, whatever others say."""
     places: dict[int, int] = {}
     left = sorted(found, key=lambda it: -it.shown)
     if left:
         places[left[0].one] = 0
-    while fresh := [it for it in left if (it.one in places) != (it.other in places)]:
-        it = fresh[0]
+    while it := next((it for it in left if (it.one in places) != (it.other in places)), None):
         if it.one in places:
             places[it.other] = places[it.one] + it.distance
         else:
             places[it.one] = places[it.other] - it.distance
-    images = {image for it in found for image in (it.one, it.other)}
-    if not places or set(places) != images or any(places[it.other] - places[it.one] != it.distance for it in found):
-        return None
-    least = min(places.values())
+    least = min(places.values(), default=0)
     return {image: place - least for image, place in places.items()}
+
+
+def agree(found: Sequence[Shift], images: int) -> bool:
+    """Distances connect all of so many images and agree with one beginning of each, and are so many that they need not: where each image is reached
+    in one way alone any distances agree, those of copies on the next disk too."""
+    return len(found) >= images and len(potentials(found) or ()) == images
 
 
 def apart(found: Sequence[Shift], images: int) -> int | None:

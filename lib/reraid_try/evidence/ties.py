@@ -8,7 +8,7 @@ from ..calls.commands import Runner
 from ..calls.sets import LEVELS
 from ..units import counted
 from . import dependence, families, relations
-from .families import COPIES, LEVEL_5, LEVEL_6, Family
+from .families import COPIES, LEVEL_5, LEVEL_6, Family, Old
 from .images import Image
 from .relations import Relations
 
@@ -89,11 +89,18 @@ class Ties:
             behind = min(end, reshape.sector + 1)
             near = self.relations(images, reshape.last, behind, max(1, (behind - reshape.last) // MOST_ROWS), offsets)
             family = dataclasses.replace(family, reshape=reshape.closer(near) if near else reshape)
+        family = dataclasses.replace(family, old=tuple(self.since(it, family, max(first, it.first - step), moved) for it in family.old))
         if family.level != LEVEL_6 or not family.parity:
             return Known(family, None, begin)
         fine = self.relations(images, family.first // FINE_STEP * FINE_STEP, min(end, family.first + MOST_ROWS * FINE_STEP), FINE_STEP, offsets)
         chunk = families.chunk_of(fine, images) if fine else None
         return Known(family, chunk[0] if chunk else None, begin)
+
+    def since(self, old: Old, family: Family, before: int, moved: Mapping[int, int]) -> Old:
+        """From which row on an image of a family is old, by the rows from another one on, which lie closer to each other."""
+        offsets = [moved[image] for image in family.images] if moved else []
+        near = self.relations(family.images, before, old.first + 1, max(1, (old.first - before) // MOST_ROWS), offsets)
+        return old.closer(near, frozenset(family.images)) if near else old
 
 
 def named(numbers: Sequence[int]) -> str:

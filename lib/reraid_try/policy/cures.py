@@ -19,6 +19,8 @@ LARGE_ROOM, LARGE_DISK = 65536, 1 << 22
 MISFITS = 8
 # Where partitions of old tools begin, and the first extents of LVM2.
 OLD_ORIGINS, LVM_ORIGINS = (63, 128, 256, 1024), tuple(2048 + 8192 * k for k in range(24))
+# For so many rows parity stays with Smart Array controllers, before it moves on.
+DELAY = 16
 # Of so many groups a large one may stand alone.
 FEW_GROUPS = 2
 
@@ -33,6 +35,7 @@ class Family(enum.Enum):
     ALONE = "all groups but one"
     IMAGE = "what one image shows"
     BAD_ROWS = "bad rows"
+    DELAYS = "parity that stays"
     OFFSETS = "offsets"
     ORIGINS = "origins"
     FIRST_ROWS = "the first rows alone"
@@ -148,6 +151,11 @@ def bad_rows(rows: int, offsets: Collection[int]) -> Cure:
     return Cure(f"badrows {rows}", Family.BAD_ROWS, change)
 
 
+def delays() -> Cure:
+    """Parity that stays for several rows besides."""
+    return Cure(f"delays 1,{DELAY}", Family.DELAYS, lambda request: request.having(delays=listed((1, DELAY))))
+
+
 def more_offsets(offsets: Collection[int]) -> Cure:
     """These offsets besides."""
     def change(request: Request) -> Request:
@@ -188,7 +196,7 @@ class Asked:
 def in_order(plan: Plan, asked: Asked) -> list[Cure]:
     """What may be loosened, in the order in which it is tried; where images may be foreign first what one alone shows."""
     return [*(image_cures(plan) if asked.foreign else ()), half_window(plan), before_superblock(plan), no_records(), *group_cures(plan, asked.every),
-            misfits(), bad_rows(asked.rows, asked.telling), more_offsets(asked.offsets), more_origins(), *map(offsets_each, asked.unlike)]
+            misfits(), delays(), bad_rows(asked.rows, asked.telling), more_offsets(asked.offsets), more_origins(), *map(offsets_each, asked.unlike)]
 
 
 def go_together(chosen: Sequence[Cure]) -> bool:
@@ -198,7 +206,8 @@ def go_together(chosen: Sequence[Cure]) -> bool:
     distinct = len({(cure.family, cure.number) for cure in chosen}) == len(chosen)
     twice_groups = Family.ALONE in families and not families.isdisjoint((Family.GROUP, Family.IMAGE))
     with_bad = Family.BAD_ROWS in families and any(cure.family in (Family.WINDOW, Family.END) or cure.slow for cure in chosen)
-    return distinct and not twice_groups and not with_bad
+    with_slow = Family.DELAYS in families and any(cure.slow for cure in chosen)
+    return distinct and not twice_groups and not with_bad and not with_slow
 
 
 def choices(found: Sequence[Cure], count: int) -> list[tuple[Cure, ...]]:

@@ -4,7 +4,7 @@ import collections
 import dataclasses
 import functools
 import itertools
-from collections.abc import Iterable, Iterator
+from collections.abc import Iterable, Iterator, Sequence
 from typing import TYPE_CHECKING
 
 from ..calls.formats import Ranked
@@ -18,7 +18,9 @@ from ..evidence.families import LEVEL_5, LEVEL_6
 from ..evidence.images import Image
 from ..evidence.places import Places
 from ..evidence.shared import Place
+from ..evidence.shifts import Distances
 from ..evidence.ties import Ties, Told
+from ..evidence.unlike import Unlike
 from . import cures, inodes, mirrors, plain
 from .cures import Family
 from .hunt import Hunt
@@ -29,8 +31,6 @@ from .trials import Trial
 if TYPE_CHECKING:
     from .search import Search
 
-# A question of these trials takes this part of the time of a trial at most, and so many seconds at least.
-PART, LEAST_SECONDS = 6, 5
 # So many things are loosened at most, one after the other, where evidence says which array is searched.
 MOST_LOOSENED = 2
 
@@ -58,7 +58,9 @@ class Evident:
 
     def __init__(self, search: "Search") -> None:
         self.search = search
-        self.options = dataclasses.replace(search.options, seconds=max(LEAST_SECONDS, search.options.seconds // PART))
+        # A trial of these takes no longer than a question of others.
+        seconds = search.options.question_seconds
+        self.options = dataclasses.replace(search.options, seconds=seconds, question=seconds)
         self.searched: list[Part] = []
         self.ties: Ties | None = None
 
@@ -118,6 +120,8 @@ class Evident:
         asked = self.asked()
         found = asked.told(part.images, part.span.first, part.span.end)
         self.say("relation", ties.lines(found))
+        self.search.stale |= {old.image for it in found.known for old in it.family.old}
+        self.search.reshapes += [it.family.reshape for it in found.known if it.family.reshape and it.family.reshape not in self.search.reshapes]
         ways = plain.perhaps_copied, plain.tied, plain.copied, plain.untied
         perhaps, tied, copied, untied = (of(found, part.images, part.span, self.options) for of in ways)
         others = [*self.unlike(asked, found, part), *perhaps, *tied, *copied, *self.alike(part), *untied]
@@ -150,18 +154,32 @@ class Evident:
 
     def unlike(self, asked: Ties, found: Told, part: Part) -> list[Aim]:
         """What is tried of images that nothing ties, where distances tell that their data begin at unlike sectors, or that they are copies which lie
-        elsewhere on the next disk; the former too of images of which some are tied to nothing, where as many disks of the others are lost."""
+        elsewhere on the next disk; the former too of images of which some are tied to nothing, where as many disks of the others are lost, or few
+        rows tie these."""
         lost = sum(it.family.lost or 0 for it in found.known)
-        if not found.asked or found.known and not 0 < len(found.alone) <= lost:
+        if not found.asked or found.known and not (found.alone and (len(found.alone) <= lost or unlike.barely_tied(found.known))):
             return []
-        images = [self.search.images[number] for number in part.images]
-        told = unlike.found_shifts(images, part.span.first, part.span.end)
-        offsets = None if part.span.partition else unlike.look(asked, images, told, part.span.end)
+        images, span = [self.search.images[number] for number in part.images], part.span
+        shown = unlike.found_shifts(images, span.first, span.end)
+        offsets = [] if span.partition else self.offsets(asked, images, shown, span.end)
         if offsets:
-            self.say("unlike", [offsets.line()])
-            return [plain.unlike_aim(offsets, part.images, part.span, self.options)]
-        distance = shifts.apart(told, len(images)) if self.options.wants("10") and not found.known else None
-        return [plain.apart_aim(distance, part.images, part.span)] if distance else []
+            self.say("unlike", [offsets[0].line()])
+            return [plain.unlike_aim(it, part.images, span, self.options) for it in offsets]
+        if found.known:
+            return []
+        distance = shifts.apart(shown.told, len(images)) if self.options.wants("10") else None
+        copies = [plain.apart_aim(distance, part.images, span)] if distance else []
+        guessed = () if span.partition else unlike.guessed(images, shown.told)
+        begins = plain.guessed_aims(guessed, part.images, span, self.options) if guessed else []
+        # Distances that need not agree with one beginning of each image, and do, are none of copies.
+        return [*begins, *copies] if shifts.agree(shown.told, len(images)) else [*copies, *begins]
+
+    def offsets(self, asked: Ties, images: Sequence[Image], shown: Distances, end: int) -> list[Unlike]:
+        """The offsets at which parity ties these images, by distances and by what texts of LVM2 name."""
+        names = {image.number: image.name for image in images}
+        named = metadata.lvm_starts(dict.fromkeys(names, 0), names)
+        self.say("metadata", (metadata.starts_line(f"image {number}", starts) for number, starts in named.items()))
+        return unlike.look(asked, images, shown, end, named)
 
     def seek(self, aim: Aim) -> bool:
         """The trials of an aim; it says whether a candidate says enough."""
@@ -213,14 +231,20 @@ class Evident:
                 yield range(max(0, gap.start - moved), max(0, gap.stop - moved))
 
     def by_places(self, hunt: Hunt, aim: Aim) -> bool:
-        """The sets that rows of which a part is zeros allow, by where parity lies in them; it says whether a candidate is whole."""
+        """The sets that rows of which a part is zeros allow, by where parity lies in them, and where none of these is content those whose parity
+        stays for several rows; it says whether a candidate is whole."""
         hunt.places, hunt.ask_places = hunt.places or self.places_of(aim), None
         if hunt.places is None:
             return False
+        before = len(self.search.tested)
+        return self.placed(hunt, aim, hunt.places) or not self.is_content(before) and self.placed(hunt, aim, hunt.places, cures.DELAY)
+
+    def placed(self, hunt: Hunt, aim: Aim, where: Places, delay: int = 1) -> bool:
+        """The sets that these places allow, with parity that stays for so many rows; it says whether a candidate is whole."""
         shape = aim.shapes[0]
-        best = hunt.places.best(self.offsets_of(hunt, aim))
+        best = where.best(self.offsets_of(hunt, aim), [delay * chunk for chunk in places.CHUNKS])
         numbers = {image: place for place, image in enumerate(aim.images)}
-        words = dict.fromkeys(word for it in best for word in it.words(shape.levels, numbers, tuple(one + it.offset for one in aim.moved)))
+        words = dict.fromkeys(word for it in best for word in it.words(shape.levels, numbers, tuple(one + it.offset for one in aim.moved), delay))
         if not words:
             return False
         listing = Listing(tuple(Ranked(rank, word) for rank, word in enumerate(words)), None, True,
@@ -228,7 +252,8 @@ class Evident:
         bare = cures.told("all landmarks, in place of which zeros tell where parity lies", Family.BARE, [group.place for group in hunt.plan.groups])
         # What a fresh NTFS numbers 0 is no reason to call its group one that does not hold.
         request = dataclasses.replace(hunt.asking.request(shape), records=True)
-        trial = self.search.say_trial(hunt, Trial(shape, (bare,), request), listing)
+        chosen = (bare, cures.delays()) if delay > 1 else (bare,)
+        trial = self.search.say_trial(hunt, Trial(shape, chosen, cures.loosened(request, chosen[1:])), listing)
         return self.search.take(hunt, trial, listing.sets, lambda it: (read_word(it.text), hunt.word(it.text)))
 
     def by_inodes(self, hunt: Hunt, aim: Aim, before: int) -> bool:

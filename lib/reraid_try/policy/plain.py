@@ -91,6 +91,16 @@ def unlike_aim(found: Unlike, numbers: Sequence[int], span: Span, options: Optio
                begin=found.known.begin, moved=found.offsets)
 
 
+def guessed_aims(offsets: Sequence[int], numbers: Sequence[int], span: Span, options: Options) -> list[Aim]:
+    """What is tried of images that hold the same at distances which agree with one beginning of each, where parity does not tie them: as many disks
+    lost as a level bears."""
+    asked = (("mode", "each"), ("offsets", listed(offsets)), ("window", str(EACH_WINDOW)))
+    why = f"the images hold the same as far apart as if their data began at these sectors: {', '.join(map(str, offsets))}"
+    count = len(numbers)
+    shapes = allowed([Shape("5", count + 1, 1), Shape("6", count + 2, 2)], options)
+    return [Aim(tuple(numbers), span, why, shapes, asked)] if shapes else []
+
+
 def metadata_aim(members: Sequence[Member], span: Span, options: Options) -> Aim | None:
     """What is tried of images whose metadata name an array; None where a set has no words for it, or level 10 is named, of which copies tell."""
     left_out = metadata.old(members)

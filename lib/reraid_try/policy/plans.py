@@ -1,5 +1,6 @@
 """What is asked for: the requests of a shape, and what may be loosened for it. Nothing is asked of the program here."""
 
+from ..calls.sets import LEVELS
 from ..calls.surveys import Request
 from ..evidence import hints
 from ..evidence.gathered import Evidence
@@ -87,6 +88,7 @@ class Asking:
         def stands(cure: Cure) -> bool:
             """The cure makes sense for the shape and these landmarks, and is asked for now."""
             tells = shape.parity or cure.family not in (Family.WINDOW, Family.BAD_ROWS)
+            tells = tells and (cure.family is not Family.DELAYS or any(LEVELS[level].parity for level in shape.levels.split(",")))
             seen = (kinds or cure.family is not Family.ORIGINS) and (cure.kind is None or cure.kind in kinds)
             hasty = quick and (cure.slow or late and cure.family is Family.BAD_ROWS)
             return bool(tells and seen and not hasty and not (shape.foreign and cure.slow))

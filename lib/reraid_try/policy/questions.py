@@ -48,12 +48,17 @@ class Questions:
         self.allows: dict[str, First] = {}
         self.pages: dict[str, Page] = {}
 
+    @property
+    def seconds(self) -> int:
+        """How long a question may take: a part of the time of a trial."""
+        return min(self.program.seconds, self.asking.shapes.options.question_seconds)
+
     def first(self, text: str, what: str) -> First:
         """The first set of a plan that passes. `what` says what allows it."""
         if text not in self.allows:
-            page = self.program.first(text)
+            page = self.program.page(text, most=1, seconds=self.seconds)
             if page.late:
-                self.late(what, self.program.seconds)
+                self.late(what, self.seconds)
             self.allows[text] = First(page.sets[0].text if page.sets and not page.late else "", page.late)
         return self.allows[text]
 
@@ -70,7 +75,7 @@ class Questions:
         """About how many sets landmarks alone allow, at least one."""
         text = plan.having(window=1, badrows=1).text()
         if text not in self.pages:
-            self.pages[text] = self.program.page(text)
+            self.pages[text] = self.program.page(text, seconds=self.seconds)
         return max(1, self.pages[text].estimate)
 
     def has_bad_rows(self, plan: Plan, shape: Shape) -> bool:
@@ -101,14 +106,15 @@ class Questions:
         halving: bounds of its own ask for so many each time. None where that is no number above another one, or a question, or all of them, ran
         out of the time of one."""
         marks = next(len(group.marks) for group in plan.groups if group.place == place)
-        until = time.monotonic() + self.program.seconds
+        until = time.monotonic() + self.seconds
 
         def fails(least: int) -> bool | None:
             """No more sets pass with so many fits."""
-            page = None if time.monotonic() > until else self.program.page(plan.bounded(place, Bounds(marks, least)).text(), most=beyond + 1)
+            text = plan.bounded(place, Bounds(marks, least)).text()
+            page = None if time.monotonic() > until else self.program.page(text, most=beyond + 1, seconds=self.seconds)
             if page and not page.late:
                 return len(page.sets) <= beyond
-            self.late("enough marks of a group allow", self.program.seconds)
+            self.late("enough marks of a group allow", self.seconds)
             return None
         # Most shapes have no set with more than another one, which one question tells.
         if above and (above >= marks or fails(above + 1) is not False):

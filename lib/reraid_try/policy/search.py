@@ -17,6 +17,7 @@ from ..checks.verdicts import Score
 from ..checks.volumes import Room
 from ..errors import Refused, Stopped
 from ..evidence import images as seen
+from ..evidence.families import Reshape
 from ..evidence.images import Image
 from ..options import Options
 from ..report import words
@@ -29,7 +30,7 @@ from .evident import Evident
 from .hunt import Hunt
 from .mirrors import Grouped, Mirrors, groupings, is_striped
 from .plans import FIRST_ROWS
-from .shapes import Shape
+from .shapes import Shape, Tiers
 from .steps import Step
 from .trials import Trial
 
@@ -43,8 +44,9 @@ MOST_THRICE = 2
 
 class Search:
     """One run: what is seen, what is tried, and the candidates. `hunt` is that over all images, `hunts` are all that were begun, `shapes_tried` of
-    which shapes there were trials, `why` for what reason the next ones are; `solved` says that a candidate says enough of what evidence gave a
-    reason for, so that there is no hunt over all images; `memory` keeps what is found in volumes, where another run may go on with it."""
+    which shapes there were trials, `stale` the images that ties name as old, `reshapes` where ties change for good, `why` for what reason the next
+    trials are; `solved` says that a candidate says enough of what evidence gave a reason for, so that there is no hunt over all images; `memory`
+    keeps what is found in volumes, where another run may go on with it."""
 
     tests: Tests
     hunt: Hunt
@@ -57,6 +59,8 @@ class Search:
         self.number, self.said_on, self.was_late, self.solved = 0, False, False, False
         self.hunts: list[Hunt] = []
         self.shapes_tried: set[str] = set()
+        self.stale: set[int] = set()
+        self.reshapes: list[Reshape] = []
         self.why = ""
 
     def run(self) -> None:
@@ -71,6 +75,8 @@ class Search:
             self.without_landmarks()
         if not self.solved and self.best() < Score.CHECKED:
             self.diagnose(lambda it: it.show(self.was_late))
+            for it in self.reshapes:
+                self.report.say("reshape", it.short(), last=it.last, first=it.sector, before=sorted(it.before), after=sorted(it.after))
         self.say_rows()
 
     def say_rows(self) -> None:
@@ -79,7 +85,8 @@ class Search:
         for _, it in self.best_told():
             rows = Rows(it.hunt)
             it.rows = rows.whole(it)
-            it.old = tuple(old.text(names) for old in rows.old(it))
+            there = {image.number for image in it.hunt.evidence.images}
+            it.old = tuple(old.text(names) for old in rows.old(it, [self.images[number] for number in sorted(self.stale - there)]))
 
     def best_told(self) -> list[tuple[int, Candidate]]:
         """The candidates, with their numbers, of which more is told: the best, and those that are encrypted."""
@@ -153,27 +160,53 @@ class Search:
             self.commands.note(f"# passed over {counted(self.hunt.passed_over, 'trial')}: landmarks alone, or parity alone, allow no set")
 
     def first_trials(self) -> bool:
-        """What the hints say, with up to three things loosened where parity tells something, what parity tells of with up to two that are soon
-        told, and the rest with up to one; it says whether the search is at its end."""
-        lost_early = len(self.images) % 2 == 1
-        if self.options.wants("10") and (self.near_mirrors(self.hunt, 0) or lost_early and self.near_mirrors(self.hunt, 1)):
-            return True
+        """What is plain; then what the hints say, with up to three things loosened where parity tells something, what parity tells of with up to two
+        that are soon told, and the rest with up to one; what is plain and ran out of its time once more. It says whether the search is at its end."""
         tiers = self.hunt.shapes.tiers()
         hinted, told = tiers.hinted, tiers.told
-        if self.before_damage(hinted + told):
+        if self.before_damage(hinted + told) or self.plain_trials(tiers):
             return True
-        exact = tuple(shape for shape in self.hunt.shapes.exact() if shape in told)
+        if self.best() < Score.CHECKED and self.plain_again(tiers):
+            return True
         telling = tuple(it for it in hinted if it.parity)
-        steps = [Step(hinted, 0), Step(exact, 0), Step(hinted, 1), Step(hinted, 2), Step(telling, 3),
-                 Step(told, 0, quick=True), Step(told, 1, quick=True), Step(told, 2, quick=True)]
+        steps = [Step(hinted, 1), Step(hinted, 2), Step(telling, 3), Step(told, 1, quick=True), Step(told, 2, quick=True)]
         for step in steps:
-            if self.take_step(step) or (step.count and self.best() >= Score.CHECKED):
+            if self.take_step(step) or self.best() >= Score.CHECKED:
                 return True
         if self.best() < Score.KNOWN:
             self.diagnose(Diagnosis.show_on_the_way)
-        if self.options.wants("10") and not lost_early and self.near_mirrors(self.hunt, 1):
+        if self.options.wants("10") and not self.lost_early and self.near_mirrors(self.hunt, 1):
             return True
         return any(self.take_step(step) or self.best() >= Score.CHECKED for step in (Step(tiers.rest, 0), Step(told + tiers.rest, 1)))
+
+    @property
+    def lost_early(self) -> bool:
+        """RAID 10 with a disk lost is looked for early: the images are of an odd number."""
+        return len(self.images) % 2 == 1
+
+    def plain_trials(self, tiers: Tiers) -> bool:
+        """Nothing loosened: what the hints say, what parity tells of, the rest where none of these is content, and RAID 10, which comes first where
+        images are the same. Each trial takes no longer than a question. It says whether the search is at its end."""
+        exact = tuple(shape for shape in self.hunt.shapes.exact() if shape in tiers.told)
+        alike = any(image.like is not None for image in self.images)
+        seconds, self.hunt.program.seconds = self.hunt.program.seconds, self.options.question_seconds
+        try:
+            if alike and self.plain_mirrors() or any(map(self.take_step, [Step(tiers.hinted, 0), Step(exact, 0), Step(tiers.told, 0, quick=True)])):
+                return True
+            return self.best() < Score.CHECKED and (self.take_step(Step(tiers.rest, 0)) or not alike and self.plain_mirrors())
+        finally:
+            self.hunt.program.seconds = seconds
+
+    def plain_again(self, tiers: Tiers) -> bool:
+        """What hints say and what parity tells of, nothing loosened, where its time was up, in the whole time of a trial; it says whether the search
+        is at its end."""
+        self.hunt.ask_again()
+        return any(map(self.take_step, [Step(tiers.hinted, 0), Step(tiers.told, 0, quick=True)]))
+
+    def plain_mirrors(self) -> bool:
+        """RAID 10 with two copies side by side, of an odd number of images with one disk lost too; it says whether the search is at its end."""
+        lost = [0, 1] if self.lost_early else [0]
+        return self.options.wants("10") and any(self.near_mirrors(self.hunt, missing) for missing in lost)
 
     def before_damage(self, shapes: Iterable[Shape]) -> bool:
         """Where maps tell of bad rows, some may be bad that no map tells of: the first rows alone, none of them bad, with all groups of landmarks

@@ -32,9 +32,10 @@ def layout(word: Word) -> str:
     """The level, the disks and the order of a set."""
     if word.copying:
         return f"RAID 10 ({word.copying.kind}={word.copying.copies}) of {len(word.slots)} disks"
-    name = PATTERNS.get(word.pattern.removesuffix(LAST_Q), word.pattern)
+    name = PATTERNS.get(word.rotation.removesuffix(LAST_Q), word.rotation)
     said = [f"RAID {word.level} of {len(word.slots)} disks"]
-    said += [f"{name}-6 (Q on the last slot)" if word.pattern.endswith(LAST_Q) else name] if word.level != "0" else []
+    said += [f"{name}-6 (Q on the last slot)" if word.rotation.endswith(LAST_Q) else name] if word.level != "0" else []
+    said += [f"parity stays for {word.delay} rows (delayed parity, as of Smart Array controllers)"] if word.delay > 1 else []
     return ", ".join(said + ([ORDERS[word.order]] if word.order in ORDERS else []))
 
 

@@ -486,15 +486,16 @@ class Tested(InFolder):
         self.assertEqual(it.found.notes, ["its volume could not be looked at: No space left on device"])
 
     def test_how_much_is_lost(self) -> None:
-        def said(text: str, *answers: tuple[str, object], maps: bool = True) -> list[str]:
+        def said(text: str, *answers: tuple[str, object], maps: bool = True, mounted: bool = False) -> list[str]:
             tests = self.over(*answers, maps=maps)
-            return tests.lost(named(read_word(text), tests.images))
+            return tests.lost(named(read_word(text), tests.images), mounted)
         self.assertEqual(said(SET, maps=False), [])
         lost = put("lost 5 8\ngood 992 of 1000\n")
         self.assertEqual(said(SET, ("reraid salvage", lost)), ["8 of 1000 sectors (less than 1%) lost by the maps"])
         self.assertEqual(said(SET, ("reraid salvage", put("good 1000 of 1000\n"))), ["nothing lost by the maps"])
         self.assertEqual(said(SET, ("reraid salvage", Answer(9))), ["how much the maps leave lost is not known"])
         self.assertEqual(said("near2:8:0:0,1"), ["its maps are not heeded"])
+        self.assertEqual(said("near2:8:0:0,1", mounted=True), ["how much its maps leave lost is not known"])
 
     def test_doubtful_ones_are_put_off(self) -> None:
         def told(answered: list[str], _: str) -> Answer:

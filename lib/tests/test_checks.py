@@ -335,6 +335,39 @@ class Rooms(InFolder):
         with self.room(("reraid write", Answer(10))).volume(Source(read_word("0:plain:none:8:0:0,1"), ("a", "b"), 80), 1 << 30, 9) as volume:
             self.assertIsNone(volume)
 
+    def mounted(self, source: Source, ends: bool = False) -> tuple[list[str], bool]:
+        """What mounts a volume, by a server that shows it, or that ends at once; and whether other volumes are still mounted after it."""
+        room = Room(Standin(("reraid salvage", put("x"))), self.folder, mounts=False)
+        self.addCleanup(room.close)
+        room.mounts, words = True, []
+
+        def serve(command: list[str], **_: object) -> mock.Mock:
+            words.extend(command)
+            if not ends:
+                with open(command[2], "wb") as file:
+                    file.write(b"x")
+            return mock.Mock(poll=lambda: 1 if ends else None)
+        with mock.patch("subprocess.Popen", serve), mock.patch("reraid_try.checks.volumes.unmount"), room.volume(source, 1 << 30, 9) as volume:
+            assert volume
+            self.assertEqual(volume.mounted, not ends)
+            if not ends:
+                os.remove(volume.path)
+        return words, room.mounts
+
+    def test_mounted_by_its_maps(self) -> None:
+        word = read_word("5:ls:none:8:0:0,1,2")
+        words, _ = self.mounted(Source(word, ("a", "b", "c"), 80))
+        self.assertEqual(words[4:], ["reraid-nbd", "set=5:ls:none:8:0:0,1,2", "end=80", "--", "a", "b", "c"])
+        words, _ = self.mounted(Source(word, ("a", "b", "c"), 80, "map 1\n0 0 +\n"))
+        self.assertEqual(words[4:6] + words[7:], ["reraid-nbd", "set=5:ls:none:8:0:0,1,2", "end=80", "--", "a", "b", "c"])
+        with open(words[6].removeprefix("maps="), encoding="ascii") as file:
+            self.assertEqual(file.read(), "map 1\n0 0 +\n")
+
+    def test_maps_that_are_refused(self) -> None:
+        """The volume is written then, and others are still mounted."""
+        word = read_word("5:ls:none:8:0:0,1,2")
+        self.assertTrue(self.mounted(Source(word, ("a", "b", "c"), 80, "map 1\n"), ends=True)[1])
+
     def test_no_room(self) -> None:
         with self.assertRaisesRegex(OutsideError, "^.*/none cannot be written: No such file.*--room"):
             Room(Standin(), f"{self.folder}/none")

@@ -107,7 +107,7 @@ class Read(InFolder):
         seen = images(9000, 700, 9100)
         seen[2] = dataclasses.replace(seen[2], map=Map("m", "0 +\n", ()))
         tests = self.over(seen, ("reraid salvage", put("good 90 of 100\n")))
-        self.assertEqual(tests.lost(named(read_word("0:plain:none:8:0:0,2"), seen)), ["10 of 100 sectors (10%) lost by the maps"])
+        self.assertEqual(tests.lost(named(read_word("0:plain:none:8:0:0,2"), seen), True), ["10 of 100 sectors (10%) lost by the maps"])
         words_asked, text = self.standin.asked[0]
         self.assertEqual((words_asked[2:], text), (["set=0:plain:none:8:0:0,1", "form=lost", "end=9000", "--", "i0", "i2"], "map 1\n0 +\n"))
 

@@ -6,7 +6,7 @@ import shutil
 from collections.abc import Sequence
 
 from ..calls.commands import Answer, Runner
-from ..evidence import heads, tables
+from ..evidence import heads, tables, unread
 from ..units import MIB, SECTOR, counted
 from . import lvm, wholes
 from .lvm import Piece
@@ -27,8 +27,8 @@ def is_there(tool: str) -> bool:
 
 
 def read_at(path: str, first: int, count: int) -> bytes:
-    """Some bytes of a volume."""
-    with open(path, "rb") as file:
+    """Some bytes of a volume, zeros where they cannot be read."""
+    with unread.opened(path) as file:
         file.seek(first)
         return file.read(count)
 
@@ -87,7 +87,7 @@ class Checkers:
 
     def regions(self, volume: Volume) -> tuple[str | None, list[Region]]:
         """The kind of the volume's partition table; the whole volume, and its partitions, also where they end behind it."""
-        with open(volume.path, "rb") as file:
+        with unread.opened(volume.path) as file:
             def read(place: int, count: int) -> bytes:
                 file.seek(place)
                 return file.read(count)

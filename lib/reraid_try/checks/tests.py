@@ -145,18 +145,18 @@ class Tests:
                     candidate.verdict = Verdict(notes=["its volume could not be written"])
                 else:
                     candidate.verdict = self.checks.look(volume, candidate.origins, word.chunk * SECTOR, word.row * SECTOR, files)
-                    candidate.verdict.notes += self.lost(members)
+                    candidate.verdict.notes += self.lost(members, volume.mounted)
                     self.looks.keep(word, candidate.origins, files, candidate.verdict)
         except OSError as error:
             candidate.verdict = Verdict(notes=[f"its volume could not be looked at: {said(error)}"])
         return candidate
 
-    def lost(self, members: Members) -> list[str]:
-        """How much of a volume is lost by the maps, where there are some."""
+    def lost(self, members: Members, mounted: bool) -> list[str]:
+        """How much of a volume is lost by the maps, where there are some. A mirror is read by its maps only where it is mounted."""
         if members.maps is None:
             return []
         if members.word.is_mirrored:
-            return ["its maps are not heeded"]
+            return ["how much its maps leave lost is not known" if mounted else "its maps are not heeded"]
         program = Program(self.commands, members.names, self.options.seconds, self.options.jobs)
         told = program.lost(members.word.text, members.end, members.maps)
         if told is None:

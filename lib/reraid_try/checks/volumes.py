@@ -3,6 +3,7 @@
 import contextlib
 import dataclasses
 import fcntl
+import hashlib
 import itertools
 import os
 import shutil
@@ -15,7 +16,7 @@ from typing import IO
 from ..calls.commands import Runner, quoted
 from ..calls.sets import Word
 from ..errors import OutsideError, said
-from ..evidence import reading
+from ..evidence import reading, unread
 from ..units import KIB, SECTOR
 from .lvm import Piece
 
@@ -94,6 +95,10 @@ class Source:
             return ["reraid", "salvage", *operands], self.maps
         return ["reraid", "write", *operands], None
 
+    def served(self, maps: str | None) -> list[str]:
+        """The operands of `reraid-nbd` that serve the volume, with the name of the file of its maps."""
+        return [f"set={self.word.text}", *([f"maps={maps}"] if maps else []), f"end={self.end}", "--", *self.names]
+
     def row_end(self, rows: int) -> int:
         """Where members end that have so many rows of chunks, or a few more, so that each chunk is there with all its copies."""
         copies = self.word.copying.copies if self.word.copying else 1
@@ -142,7 +147,7 @@ class Room:
     @contextlib.contextmanager
     def volume(self, source: Source, most: int, seconds: float) -> Iterator[Volume | None]:
         """The volume of a set. Where it is no mount, at most so many bytes of it are written; None where it cannot be had."""
-        if self.mounts and not source.maps:
+        if self.mounts:
             folder = self.path("mount")
             if self.mount(folder, source):
                 try:
@@ -172,10 +177,10 @@ class Room:
         return Volume(path, source.length, stop < source.end)
 
     def mount(self, folder: str, source: Source) -> bool:
-        """Mounts the volume of a set; it says whether that was done."""
+        """Mounts the volume of a set, a damaged one by its maps; it says whether that was done."""
         os.mkdir(folder)
         shown = os.path.join(folder, "volume")
-        words = ["nbdfuse", "--readonly", shown, "--command", "reraid-nbd", f"set={source.word.text}", f"end={source.end}", "--", *source.names]
+        words = ["nbdfuse", "--readonly", shown, "--command", "reraid-nbd", *source.served(self.maps_file(source.maps))]
         server = subprocess.Popen(words, stdin=subprocess.DEVNULL, stdout=subprocess.DEVNULL, stderr=subprocess.DEVNULL, start_new_session=True)
         self.mounted[folder] = server
         self.commands.note(quoted(words))
@@ -186,8 +191,19 @@ class Room:
                 break
             time.sleep(NEXT_LOOK)
         self.unmount(folder)
-        self.mounts = False
+        # That maps are refused says nothing of other volumes.
+        self.mounts = source.maps is not None
         return False
+
+    def maps_file(self, maps: str | None) -> str | None:
+        """The name of a file of the text of maps; None where there are none."""
+        if maps is None:
+            return None
+        path = os.path.join(self.base, hashlib.sha256(maps.encode(errors="surrogateescape")).hexdigest() + ".maps")
+        if not os.path.exists(path):
+            with open(path, "w", encoding="utf-8", errors="surrogateescape") as file:
+                file.write(maps)
+        return path
 
     def unmount(self, folder: str) -> None:
         """Unmounts a volume, and ends its server."""
@@ -256,9 +272,9 @@ def clear_old(folder: str) -> None:
 
 
 def copy(source: str, target: str, pieces: Sequence[Piece], length: int, room: int) -> bool:
-    """Copies the pieces of a file one after another, without what is zeros. It says whether there was room."""
+    """Copies the pieces of a file one after another, without what is zeros or cannot be read. It says whether there was room."""
     zeros, written, at = bytes(COPIED), 0, 0
-    with open(source, "rb") as old, open(target, "wb") as new:
+    with unread.opened(source) as old, open(target, "wb") as new:
         for piece in pieces:
             size = min(piece.length, length - at)
             for place, block in reading.blocks(old, piece.first, piece.first + size, COPIED):

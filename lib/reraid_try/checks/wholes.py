@@ -14,7 +14,7 @@ import zlib
 from collections.abc import Callable, Iterable, Iterator
 from typing import BinaryIO, Optional
 
-from ..evidence import reading
+from ..evidence import reading, unread
 from ..units import KIB, MIB, SECTOR
 
 MOST_FILES = 64
@@ -223,7 +223,7 @@ KINDS = (
 def count(path: str, first: int = 0, last: int | None = None, seconds: float = NO_END, most: int = MOST_FILES) -> Wholes:
     """The files that begin in a volume, or in a part of it, in bytes; the first of them where there are many, or where time is up."""
     told, until = Wholes(), time.monotonic() + seconds
-    with open(path, "rb") as file:
+    with unread.opened(path) as file:
         last = last if last is not None else file.seek(0, 2)
         after = first
         for place, kind in starts(file, first, last, until):
@@ -243,7 +243,7 @@ def count_long(path: str, last: int, row: int, chunk: int, seconds: float) -> Wh
     whole, or until time is up; half of it goes to the search for where they begin. Where none of them is so long, from how many chunks of a row files
     go on."""
     told, now = Wholes(), time.monotonic()
-    with open(path, "rb") as file:
+    with unread.opened(path) as file:
         found = list(itertools.islice(starts(file, 0, last, now + seconds / 2), MOST_STARTS))
         ends = [*(place for place, _ in found[1:]), last]
         room = [(end - place, place, kind) for (place, kind), end in zip(found, ends)]

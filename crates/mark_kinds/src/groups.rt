@@ -21,10 +21,12 @@ pub enum GroupKind {
     Ext,
     /// The inodes of an XFS file system of version 5.
     Xfs5,
+    /// The tree blocks of a btrfs file system.
+    Btrfstree,
 }
 
 /// How many kinds of groups there are.
-pub const GROUP_COUNT: usize = 7;
+pub const GROUP_COUNT: usize = 8;
 
 /// All kinds of groups, in the order in which they stand in plans and lists.
 pub const GROUPS: [GroupKind; GROUP_COUNT] = [
@@ -35,6 +37,7 @@ pub const GROUPS: [GroupKind; GROUP_COUNT] = [
     GroupKind::Lvm,
     GroupKind::Ext,
     GroupKind::Xfs5,
+    GroupKind::Btrfstree,
 ];
 
 /// The most groups of one kind of file system in a plan.
@@ -98,6 +101,7 @@ impl GroupKind {
             GroupKind::Lvm => file_system(4, "lvm"),
             GroupKind::Ext => file_system(5, "ext"),
             GroupKind::Xfs5 => file_system(6, "xfs5"),
+            GroupKind::Btrfstree => file_system(7, "btrfstree"),
         }
     }
 

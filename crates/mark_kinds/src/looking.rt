@@ -21,6 +21,8 @@ pub struct Kinds {
     pub ext: bool,
     /// Inodes of XFS file systems of version 5.
     pub xfs5: bool,
+    /// Tree blocks of btrfs file systems.
+    pub btrfstree: bool,
 }
 
 /// The most sectors that a survey may be asked to pass over.
@@ -36,7 +38,7 @@ pub struct DropAt {
 }
 
 impl Kinds {
-    /// The kinds that are looked for where none is named: all but ext and xfs5.
+    /// The kinds that are looked for where none is named: all but ext, xfs5 and btrfstree.
     pub fn usual() -> Kinds
         ensures { result ≡ usual_kinds }
     {
@@ -48,6 +50,7 @@ impl Kinds {
             lvm: true,
             ext: false,
             xfs5: false,
+            btrfstree: false,
         }
     }
 
@@ -63,6 +66,7 @@ impl Kinds {
             lvm: has_group(kinds, GroupKind::Lvm),
             ext: has_group(kinds, GroupKind::Ext),
             xfs5: has_group(kinds, GroupKind::Xfs5),
+            btrfstree: has_group(kinds, GroupKind::Btrfstree),
         }
     }
 
@@ -78,6 +82,7 @@ impl Kinds {
             GroupKind::Lvm => self.lvm,
             GroupKind::Ext => self.ext,
             GroupKind::Xfs5 => self.xfs5,
+            GroupKind::Btrfstree => self.btrfstree,
         }
     }
 }

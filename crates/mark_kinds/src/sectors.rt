@@ -27,10 +27,12 @@ pub enum Kind {
     Ext,
     /// An inode of an XFS file system of version 5.
     Xfs5,
+    /// A tree block of btrfs.
+    Btrfstree,
 }
 
 /// How many kinds of landmark sectors there are.
-pub const KIND_COUNT: usize = 10;
+pub const KIND_COUNT: usize = 11;
 
 /// All kinds of landmark sectors, in their order.
 pub const KINDS: [Kind; KIND_COUNT] = [
@@ -44,6 +46,7 @@ pub const KINDS: [Kind; KIND_COUNT] = [
     Kind::Lvm,
     Kind::Ext,
     Kind::Xfs5,
+    Kind::Btrfstree,
 ];
 
 /// What holds of all landmark sectors of a kind: a row of the table.
@@ -75,6 +78,7 @@ impl Kind {
             Kind::Lvm => row_of(7, "lvm", GroupKind::Lvm),
             Kind::Ext => row_of(8, "ext", GroupKind::Ext),
             Kind::Xfs5 => row_of(9, "xfs5", GroupKind::Xfs5),
+            Kind::Btrfstree => row_of(10, "btrfstree", GroupKind::Btrfstree),
         }
     }
 

@@ -49,7 +49,7 @@ pub first_ends : (x : Chunk) → is_within x ≡ true → x.first + x.bytes < 2 
 unfolding is_within
 first_ends x t = grind (arith, nat_tests)
 
-second_part : (x : Chunk) → is_within x ≡ true → is_second_within x.bytes x.second ≡ true
+pub second_part : (x : Chunk) → is_within x ≡ true → is_second_within x.bytes x.second ≡ true
 unfolding is_within
 second_part x t = grind (arith, nat_tests)
 

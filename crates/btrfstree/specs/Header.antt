@@ -1,17 +1,25 @@
 -- The header of a tree block of btrfs (btrfs On-disk Format, Header). Numbers are little-endian. The checksum covers the whole block,
--- of which a sector is only the first part: so it is not looked at, and identifier and address decide.
-use Rattle.std.specs.Prelude.{ℕ, List, Bool, ◌&&◌, ◌==◌, nat_le, nat_lt, not, Option, Some, None, if◌then◌else◌, codes, slice_index, ◌%◌}
-use Rattle.sector_fields.specs.Fields.{has_bytes, u32_le, u64_le}
+-- of which a sector is only the first part: so it is not looked at.
+use Rattle.std.specs.Prelude.{ℕ, List, Bool, ◌&&◌, ◌||◌, ◌==◌, nat_le, nat_lt, not, Option, Some, None, if◌then◌else◌, codes, slice_index, ◌%◌}
+use Rattle.sector_fields.specs.Fields.{has_bytes, u32_le, u64_le, uuid_at}
+use Rattle.btrfstree.specs.declared.header.TreeBlock.{TreeBlock}
 use Rattle.btrfstree.specs.declared.header.TreeHeader.{TreeHeader}
 
--- the facts that make a sector the first of a tree block of the file system with the identifier (its metadata_uuid where that is set):
--- no superblock; an address that is a multiple of 4,096 and not 0; and one of the 8 levels
-unfoldable pub is_header : List ℕ → List ℕ → Bool
-is_header identifier s =
-    has_bytes s 32 identifier  -- fsid: 16 bytes at 32
-    && not (has_bytes s 64 (codes "_BHRfS_M"))  -- where a superblock has its magic number
+-- the facts that make a sector the first of a tree block: no superblock; an identifier that is not all zeros; an address that is a
+-- multiple of 4,096 and not 0; one of the two revisions of back references; no more items than the largest block, of 64 KiB, has room for:
+-- 25 bytes each, after the header of 101; and one of the 8 levels
+unfoldable pub is_block : List ℕ → Bool
+is_block s =
+    not (has_bytes s 64 (codes "_BHRfS_M"))  -- where a superblock has its magic number
+    && (nat_lt 0 (u64_le s 32) || nat_lt 0 (u64_le s 40))  -- fsid: 16 bytes at 32
     && nat_lt 0 (u64_le s 48) && (u64_le s 48 % 4096 == 0)  -- logical address of this block: u64 at 48
+    && nat_le (slice_index s 63) 1  -- backref revision: u8 at 63, 0 (OLD) or 1 (MIXED)
+    && nat_le (u32_le s 96) 2617  -- nritems: u32 at 96
     && nat_le (slice_index s 100) 7  -- level: u8 at 100
+
+-- it is one of the file system with the identifier (its metadata_uuid where that is set)
+unfoldable pub is_header : List ℕ → List ℕ → Bool
+is_header identifier s = has_bytes s 32 identifier && is_block s
 
 -- its fields
 unfoldable pub header_of : List ℕ → TreeHeader
@@ -27,6 +35,28 @@ header_of s = record {
 unfoldable pub tree_header : List ℕ → List ℕ → Option TreeHeader
 tree_header identifier s = if is_header identifier s then Some (header_of s) else None
 
--- a tree block counts as a mark where its address begins a stretch of 16 KiB
+-- a leaf of the tree of chunks
+unfoldable pub is_chunk_leaf : TreeHeader → Bool
+is_chunk_leaf header = (header.level == 0) && (header.owner == 3)  -- CHUNK_TREE_OBJECTID
+
+-- a tree block counts where its address begins a stretch of 64 KiB, so that some thousands of them spread over the chunks, or it is a leaf
+-- of the tree of chunks, which says where addresses lie
 unfoldable pub is_mark : TreeHeader → Bool
-is_mark header = header.address % 16384 == 0
+is_mark header = (header.address % 65536 == 0) || is_chunk_leaf header
+
+-- a sector is the first of a tree block that counts, of whichever file system
+unfoldable pub is_counted : List ℕ → Bool
+is_counted s = is_block s && is_mark (header_of s)
+
+-- what is known of it without its file system
+unfoldable pub block_of : List ℕ → TreeBlock
+block_of s = record {
+  identifier = uuid_at s 32;
+  address = (header_of s).address;
+  generation = (header_of s).generation;
+  is_chunk_leaf = is_chunk_leaf (header_of s);
+}
+
+-- that, if the sector is one
+unfoldable pub tree_block : List ℕ → Option TreeBlock
+tree_block s = if is_counted s then Some (block_of s) else None

@@ -1,3 +1,4 @@
 pub mod Header
 pub mod Chunks
+pub mod Whole
 pub mod Super

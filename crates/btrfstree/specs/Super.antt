@@ -1,12 +1,8 @@
 -- The superblock of btrfs, 4,096 bytes, and what it says of tree blocks (btrfs On-disk Format, Superblock). Numbers are little-endian.
-use Rattle.std.specs.Prelude.{ℕ, ◌+◌, ◌/◌, ◌%◌, List, Bool, ◌&&◌, ◌==◌, nat_le, Option, Some, None, if◌then◌else◌, codes, slice_range}
+use Rattle.std.specs.Prelude.{ℕ, ◌/◌, ◌%◌, List, Bool, ◌&&◌, ◌==◌, nat_le, Option, Some, None, if◌then◌else◌, codes}
 use Rattle.sector_fields.specs.Fields.{has_bytes, u16_le, u32_le, u64_le, uuid_at}
-use Rattle.crc32c.specs.Register.{register_after}
+use Rattle.btrfstree.specs.Whole.{is_whole}
 use Rattle.btrfstree.specs.declared.superblock.TreeSuper.{TreeSuper}
-
--- the bytes are whole: their checksum is that of all bytes after it, inverted
-unfoldable pub is_whole : List ℕ → Bool
-is_whole block = register_after 0xFFFFFFFF (slice_range block 32 4096) + u32_le block 0 == 0xFFFFFFFF  -- csum: its first u32, at 0
 
 -- the facts that make bytes a superblock whose checksum is by CRC-32C, and right
 unfoldable pub is_super : List ℕ → Bool

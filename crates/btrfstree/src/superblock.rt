@@ -2,9 +2,10 @@
 
 ghost use Rattle.std.specs.Prelude.{◌≡◌, ◌+◌, ◌≤◌};
 ghost use Rattle.sector_fields.specs.Fields.{has_bytes, uuid_at};
-ghost use Rattle.btrfstree.specs.Super.{is_super, is_whole, super_of, tree_super};
+ghost use Rattle.btrfstree.specs.Super.{is_super, super_of, tree_super};
 
 use crate::fields::{u16_le, u32_le, u64_le};
+use crate::whole::is_whole;
 use uuid::Uuid;
 
 /// The bytes of a superblock.
@@ -12,9 +13,6 @@ const BLOCK: usize = 4096;
 
 /// The most bytes of that array.
 const LARGEST_ARRAY: u32 = 2048;
-
-/// The register with which its checksum begins.
-const ALL_ONES: u32 = 0xFFFF_FFFF;
 
 /// The weight of the feature that tree blocks have an identifier of their own.
 const METADATA_UUID: u64 = 0x400;
@@ -56,14 +54,6 @@ fn is_super(block: &[u8; BLOCK]) -> bool
         && u32_le(block, 160) <= LARGEST_ARRAY
         && u16_le(block, 196) == 0
         && is_whole(block)
-}
-
-/// Whether the checksum of a superblock is right.
-#[tactic(auto, unfolding(crate::specs::Super::is_whole))]
-fn is_whole(block: &[u8; BLOCK]) -> bool
-    ensures { result ≡ is_whole block.now }
-{
-    crc32c::after(ALL_ONES, &block[32..4096]) as u64 + u32_le(block, 0) as u64 == ALL_ONES as u64
 }
 
 /// Whether `bytes` stand from byte `at` on.

@@ -5,6 +5,10 @@
 #[cfg(test)]
 mod btrfs;
 #[cfg(test)]
+mod btrfs_blocks;
+#[cfg(test)]
+mod btrfs_leaves;
+#[cfg(test)]
 mod btrfs_parts;
 #[cfg(test)]
 mod checksums;

@@ -9,6 +9,7 @@ import zlib
 
 from typing import NamedTuple
 
+import trees
 from inodes import STRETCH, XfsPlaces, xfs_inode, xfs_places
 from texts import FAR, MARKS_OF, SECTOR, Group, Mark
 
@@ -103,7 +104,8 @@ def xfs5(sector):
 
 
 READERS = {"gpt": gpt, "boot": boot, "record": record, "super": super_block, "agf": head_of_group(b"XAGF"),
-           "agi": head_of_group(b"XAGI"), "lvm": label, "btrfs": btrfs, "ext": ext, "xfs5": xfs5}
+           "agi": head_of_group(b"XAGI"), "lvm": label, "btrfs": btrfs, "ext": ext, "xfs5": xfs5,
+           "btrfstree": trees.tree_block}
 MAGICS = {b"EFI ": "gpt", b"FILE": "record", b"XFSB": "super", b"XAGF": "agf", b"XAGI": "agi", b"LABE": "lvm"}
 
 
@@ -111,7 +113,7 @@ def read(block):
     """The kind of a sector, if it is of one, and its fields. What is of one of the first kinds is of no later one."""
     told = MAGICS.get(block[:4]) or ("boot" if block[3:7] == b"NTFS" else None)
     for kind in (told, "btrfs" if block[64:66] == b"_B" else None, "ext" if block[56:58] == b"\x53\xEF" else None,
-                 "xfs5" if block[:2] == b"IN" else None):
+                 "xfs5" if block[:2] == b"IN" else None, "btrfstree"):
         found = READERS[kind](block) if kind else None
         if found is not None:
             return kind, found
@@ -186,7 +188,22 @@ def xfs5_groups(seen):
             for identifier, places in list(systems.items())[:32]]
 
 
-def groups_of(seen, unit, kinds):
+def tree_groups(seen, images):
+    """A group for each identifier of tree blocks of which a leaf, read where it was seen, tells where some lie."""
+    leaves = {}
+    for sector, place, found in seen["btrfstree"]:
+        block = images[place][sector * SECTOR:sector * SECTOR + trees.NODE]
+        if found.is_leaf and len(block) == trees.NODE and trees.is_whole(block):
+            leaves.setdefault(found.identifier, []).append((found.generation, trees.chunks(block)))
+    groups = {}
+    for sector, place, found in seen["btrfstree"]:
+        places = trees.told(leaves.get(found.identifier, []), found.address)
+        if places:
+            groups.setdefault(found.identifier, []).append(Mark("btrfstree", place, sector, trees.rule(places)))
+    return [Group("btrfstree", marks) for marks in list(groups.values())[:32]]
+
+
+def groups_of(seen, images, unit, kinds):
     groups = []
     if seen["gpt"]:
         groups.append(Group("gpt", [Mark("gpt", place, sector, f"at:{unit * found['own']}") for sector, place, found in seen["gpt"]]))
@@ -210,4 +227,4 @@ def groups_of(seen, unit, kinds):
     groups += gathered("btrfs", seen, lambda sector, place, found: found[0], lambda found: found[1] // SECTOR)
     groups += gathered("lvm", seen, lambda sector, place, found: (sector, place), lambda found: found)
     groups += gathered("ext", seen, lambda sector, place, found: found[0], lambda found: found[1])
-    return groups + (xfs5_groups(seen) if "xfs5" in kinds else [])
+    return groups + (xfs5_groups(seen) if "xfs5" in kinds else []) + tree_groups(seen, images)

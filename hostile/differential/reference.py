@@ -170,7 +170,7 @@ def survey_plan(given, images):
     kinds = given.get("kinds", USUAL_KINDS)
     seen = sightings(images, asked["offsets"][0], end, kinds, set(given.get("drop", [])), unit)
     asked["origins"] = sorted(set(asked["origins"]) | first_blocks(images, seen["gpt"], unit))[:64]
-    return Plan([len(image) // SECTOR for image in images], end, asked, groups_of(seen, unit, kinds), given.get("mode") == "each")
+    return Plan([len(image) // SECTOR for image in images], end, asked, groups_of(seen, images, unit, kinds), given.get("mode") == "each")
 
 
 def sample(given):

@@ -13,6 +13,7 @@ import sys
 import zlib
 
 import reference
+import trees
 from texts import PATTERNS, SECTOR, SYNDROMES
 
 NAMES = [*"abcdefghijklmnopqrstuvwx", *(f"n{place}" for place in range(24, 66))]
@@ -396,10 +397,10 @@ def xfs_super(uuid=b"\6" * 16, version=0xB4A5, size=512, features=3, meta=bytes(
     return bytes(block)
 
 
-def printed_sector(name, constant):
-    """A sector as a table of the crate `inode_rows` has it."""
+def printed(name, constant):
+    """Bytes as a table of the crate `inode_rows` has them."""
     text = (pathlib.Path(__file__).resolve().parents[2] / "crates/inode_rows/src" / f"{name}.rt").read_text(encoding="utf-8")
-    table = re.search(rf"pub const {constant}: \[u8; 512\] = \[(.*?)\];", text, re.DOTALL)[1]
+    table = re.search(rf"pub const {constant}: \[u8; [0-9]+\] = \[(.*?)\];", text, re.DOTALL)[1]
     return bytes.fromhex("".join(re.findall("0x(..)", table)))
 
 
@@ -444,11 +445,59 @@ def inodes():
     seen({3: xfs_super(groups=16), 5: total.to_bytes(SECTOR, "little")}, f"group xfs5\nmark xfs5 0 5 at:{(3 * 17 + 16) * 8}\n")
     # sectors of file systems of other hands, and the places that xfs_db prints
     for names, inode, place in ((("SUPER", "INODE"), 655488, 540800), (("WIDE_SUPER", "WIDE_INODE"), 263424, 206080)):
-        head, there = (printed_sector("xfs_sectors", name) for name in names)
+        head, there = (printed("xfs_sectors", name) for name in names)
         assert struct.unpack_from(">Q", there, 152) == (inode,)
         seen({9: head, 5: there}, f"group xfs5\nmark xfs5 0 5 at:{place}\n")
-    seen({9: printed_sector("xfs_sectors", "LARGE_SUPER"), 5: printed_sector("xfs_sectors", "LARGE_INODE")}, "")
+    seen({9: printed("xfs_sectors", "LARGE_SUPER"), 5: printed("xfs_sectors", "LARGE_INODE")}, "")
     row(f"{words} kinds=xfs5,ext", [with_sectors(4, {})], status=1, line="word 9 is not understood")
+
+
+def leaf_of(front, back):
+    """A leaf with what a table of the crate `inode_rows` has of it, and zeros between."""
+    first, last = printed("btrfs_leaves", front), printed("btrfs_leaves", back)
+    return first + bytes(trees.NODE - len(first) - len(last)) + last
+
+
+def tree_blocks():
+    """Leaves of file systems of other hands, and the places that btrfs-map-logical prints."""
+    asked = {"levels": 0, "members": 2, "patterns": "plain", "syndromes": "none", "chunks": 1, "offsets": 0}
+    words = "survey " + " ".join(f"{name}={value}" for name, value in asked.items()) + " origins=0"
+
+    def seen(there, groups, more="kinds=btrfstree"):
+        image = bytearray(100 * SECTOR)
+        for sector, block in there.items():
+            image[sector * SECTOR:sector * SECTOR + len(block)] = block[:len(image) - sector * SECTOR]
+        row(f"{words} {more}", [bytes(image)], out=plan([100], groups=groups, **asked))
+    leaf, single = leaf_of("LEAF_FRONT", "LEAF_BACK"), leaf_of("SINGLE_FRONT", "SINGLE_BACK")
+    header, other = (printed("btrfs_leaves", name) for name in ("HEADER", "SINGLE_HEADER"))
+    own, found = f"either:{22036480 // SECTOR}:{30425088 // SECTOR}\n", f"either:{38862848 // SECTOR}:{72417280 // SECTOR}\n"
+    both = f"group btrfstree\nmark btrfstree 0 3 {found}mark btrfstree 0 40 {own}"
+    seen({3: header, 40: leaf}, both)
+    seen({40: leaf, 99: header}, f"group btrfstree\nmark btrfstree 0 40 {own}mark btrfstree 0 99 {found}")
+    seen({5: single, 3: other}, "group btrfstree\nmark btrfstree 0 3 at:10624\nmark btrfstree 0 5 at:2080\n")
+    # no leaf that tells: none, one that is passed over, cut off or not whole
+    seen({3: header}, "")
+    seen({3: header, 40: leaf}, "", "kinds=btrfstree drop=0:40")
+    seen({3: header, 69: leaf}, "")
+    seen({3: header, 68: leaf}, both.replace("0 40 ", "0 68 "))
+    for at in (0, 32, 200, 8000, 16383):
+        seen({3: header, 40: leaf[:at] + bytes([leaf[at] ^ 1]) + leaf[at + 1:]}, "")
+    seen({3: header, 40: leaf}, "", "kinds=xfs5")
+    # what the header of another block says: another file system, an address beside, of another chunk or of none
+    for change in (header[:32] + b"\7" * 16 + header[48:], header[:49] + bytes([header[49] ^ 0x40]) + header[50:], header[:54] + b"\1" + header[55:],
+                   header[:63] + b"\2" + header[64:], header[:100] + b"\x08" + header[101:], header[:64] + b"_BHRfS_M" + header[72:]):
+        seen({3: change, 40: leaf}, f"group btrfstree\nmark btrfstree 0 40 {own}")
+    seen({3: header[:48] + (13631488 + 65536).to_bytes(8, "little") + header[56:], 40: leaf},
+         f"group btrfstree\nmark btrfstree 0 3 at:{(13631488 + 65536) // SECTOR}\nmark btrfstree 0 40 {own}")
+    # the latest leaf tells, if it is the only one of its generation or agrees with the others
+    seen({3: header, 5: leaf, 40: leaf}, f"group btrfstree\nmark btrfstree 0 3 {found}mark btrfstree 0 5 {own}mark btrfstree 0 40 {own}")
+    moved = (38797312 + 65536).to_bytes(8, "little")
+    there = leaf.rindex(b"\1" + bytes(7) + (38797312).to_bytes(8, "little")) + 8
+    for generation, rule in ((5, found), (6, ""), (7, f"either:{38862848 // SECTOR + 128}:{72417280 // SECTOR}\n")):
+        later = leaf[:80] + bytes([generation]) + leaf[81:there] + moved + leaf[there + 8:]
+        later = crc32c(later[32:]).to_bytes(4, "little") + later[4:]
+        seen({3: header, 5: later, 40: leaf},
+             "group btrfstree\n" + (f"mark btrfstree 0 3 {rule}" if rule else "") + f"mark btrfstree 0 5 {own}mark btrfstree 0 40 {own}")
 
 
 # Bounds of a group
@@ -494,12 +543,12 @@ def own_bounds():
                                    (21, "3\nmode each", f"group btrfs\nbounds 1 {2 ** 55}\n"), (1, "4\nmode each", "")):
         row("list", images, plan([4, 4], version, groups, **values), status=2, line=f"plan line {place} is not understood")
     # a text of version 3 in which no group has bounds is refused at its end, or at the mark after which no group may begin
-    last = "group xfs5\n" * 31
-    row("list", images, plan([4, 4], "3\nmode common", last + "group xfs5\nmark xfs5 0 1 at:0\n", **values), status=2,
+    last = "group btrfstree\n" * 31
+    row("list", images, plan([4, 4], "3\nmode common", last + "group btrfstree\nmark btrfstree 0 1 at:0\n", **values), status=2,
         line="plan line 52 is not understood")
-    row("list", images, plan([4, 4], "3\nmode common", last + "mark xfs5 0 1 at:0\n", **values), status=2, line="plan line 52 is not understood")
-    row("list", images, plan([4, 4], "3\nmode common", last + "group xfs5\n", **values), status=2, line="plan line 52 is not understood")
-    row("list", images, plan([4, 4], "3\nmode common", f"group gpt\nbounds 0 0\n{last}group xfs5\nmark xfs5 0 1 at:0\n", **values),
+    row("list", images, plan([4, 4], "3\nmode common", last + "mark btrfstree 0 1 at:0\n", **values), status=2, line="plan line 52 is not understood")
+    row("list", images, plan([4, 4], "3\nmode common", last + "group btrfstree\n", **values), status=2, line="plan line 52 is not understood")
+    row("list", images, plan([4, 4], "3\nmode common", f"group gpt\nbounds 0 0\n{last}group btrfstree\nmark btrfstree 0 1 at:0\n", **values),
         out="next 2 of 2\n")
     for mode, place in (("common", None), ("each", 12)):
         text = plan([4, 4], f"3\nmode {mode}", "group btrfs\nbounds 0 0\n", **{**values, "offsets": 2 ** 54})
@@ -600,7 +649,7 @@ def differs(words, images, text, out, status, line, ends):
 
 
 def main():
-    for rows in (earlier, inodes, own_bounds, own_offsets, delayed_rows, large_blocks, rescue, near, copies, file_systems, relations):
+    for rows in (earlier, inodes, tree_blocks, own_bounds, own_offsets, delayed_rows, large_blocks, rescue, near, copies, file_systems, relations):
         rows()
     differing = 0
     for words, *rest in ROWS:

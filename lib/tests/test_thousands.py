@@ -1,4 +1,4 @@
-"""What inodes of an XFS tell: which shapes and sets they speak for, and when they are asked."""
+"""What landmarks by the thousand tell: which shapes and sets they speak for, and when they are asked."""
 
 import types
 import unittest
@@ -11,7 +11,7 @@ from reraid_try.calls.program import LAST
 from reraid_try.checks.verdicts import Score
 from reraid_try.evidence.images import Image
 from reraid_try.options import Options
-from reraid_try.policy import inodes, plain
+from reraid_try.policy import plain, thousands
 from reraid_try.policy.evident import Evident
 from reraid_try.policy.hunt import Hunt
 from reraid_try.policy.plain import Aim, Span
@@ -23,6 +23,7 @@ from tests.test_policy import XFS
 
 ZERO, FIVE, SIX = Shape("0", 3), Shape("5", 4, 1), Shape("6", 5, 2)
 SHAPES = ZERO, FIVE, SIX
+BOTH = ("xfs5", "btrfstree")
 WHOLE = Aim((0, 1, 2), Span(0, 8000), "why", SHAPES)
 
 
@@ -31,12 +32,17 @@ def inode_group(count: int) -> tuple[str, list[tuple[str, int, int, str]]]:
     return "xfs5", [("xfs5", 0, 2176 + 128 * number, f"at:{128 + 128 * number}") for number in range(count)]
 
 
+def tree_group(count: int) -> tuple[str, list[tuple[str, int, int, str]]]:
+    """A group of so many tree blocks, each of which lies twice."""
+    return "btrfstree", [("btrfstree", 1, 2176 + 128 * number, f"either:{128 * number}:{4096 + 128 * number}") for number in range(count)]
+
+
 def surveyed(*counts: int) -> tuple[Plan, Plan]:
     """The plan of a survey, and that of one that looks for inodes too, of which there are groups of so many."""
     return plan_of(XFS, lengths=(8000,) * 3), plan_of(XFS, *map(inode_group, counts), lengths=(8000,) * 3)
 
 
-class Inodes(InFolder):
+class Thousands(InFolder):
     def hunt(self, fits: Mapping[str, Sequence[int]], *counts: int, late: bool = False) -> Hunt:
         """A hunt over three images, of which the sets of a level have so many fits each, and the groups of inodes so many marks."""
         names = [self.file(f"{k}.img", b"x" * 8000 * SECTOR) for k in range(3)]
@@ -57,7 +63,7 @@ class Inodes(InFolder):
 
         def survey(words: list[str], _text: str) -> Answer:
             """The landmarks of the kinds that are asked for."""
-            return put((with_them if any(word.endswith(",xfs5") for word in words) else without).text())
+            return put((with_them if any(word.endswith(",xfs5,btrfstree") for word in words) else without).text())
         self.standin = Standin(("reraid survey", survey), ("reraid list", listed))
         self.late: list[str] = []
         images = [Image(name, k, 8000) for k, name in enumerate(names)]
@@ -65,8 +71,8 @@ class Inodes(InFolder):
 
     def most(self, hunt: Hunt) -> list[tuple[str, int]]:
         """The levels whose sets the most inodes of the first group speak for, and how many these are."""
-        group, = inodes.groups_of(hunt, ZERO)
-        return [(it.shape.levels, it.fits) for it in inodes.most_of(hunt, SHAPES, group)]
+        group, = thousands.groups_of(hunt, ZERO, BOTH)
+        return [(it.shape.levels, it.fits) for it in thousands.most_of(hunt, SHAPES, group, BOTH)]
 
     def test_shapes(self) -> None:
         """That with the most fits; all of them where they are as many."""
@@ -89,7 +95,17 @@ class Inodes(InFolder):
     def test_groups(self) -> None:
         """Two at most, with twelve inodes at least, the largest first."""
         for counts, places in (((11,), []), ((12,), [1]), ((12, 16, 11), [2, 1]), ((13, 12, 13), [1, 3])):
-            self.assertEqual([group.place for group in inodes.groups_of(self.hunt({}, *counts), ZERO)], places)
+            self.assertEqual([group.place for group in thousands.groups_of(self.hunt({}, *counts), ZERO, BOTH)], places)
+
+    def test_kinds(self) -> None:
+        """Groups of the kinds that are asked for; what is said of each kind."""
+        hunt = self.hunt({}, 16)
+        plan = plan_of(XFS, inode_group(13), tree_group(16), tree_group(12), lengths=(8000,) * 3)
+        self.standin.rows = (("reraid survey", put(plan.text())),)
+        for kinds, places in ((BOTH, [2, 1]), (BOTH[:1], [1]), (BOTH[1:], [2, 3])):
+            self.assertEqual([group.place for group in thousands.groups_of(hunt, ZERO, kinds)], places)
+        self.assertEqual(thousands.Most(ZERO, plan, plan.groups[2], 14).line(9),
+                         "14 of 16 tree blocks of a btrfs lie where the tree of chunks says; at the next set 9 do")
 
     def attempted(self, hunt: Hunt, whole: bool = False) -> tuple[bool, list[str], list[tuple[Trial, list[str]]]]:
         """Whether the search is at its end, what was said, and the trials with the sets that were tested."""
@@ -103,7 +119,7 @@ class Inodes(InFolder):
             report.put(search.why)
             return trial
         search: Any = types.SimpleNamespace(report=report, why="before", take=take, say_trial=say_trial, say_refused=report.put)
-        done = inodes.attempt_all(search, hunt, SHAPES)
+        done = thousands.attempt_all(search, hunt, SHAPES, BOTH)
         self.assertEqual(search.why, "before")
         return done, report.lines, tested
 
@@ -136,9 +152,9 @@ class Inodes(InFolder):
 
 
 class Asked(unittest.TestCase):
-    """Of which aims inodes are asked."""
+    """Of which aims landmarks by the thousand are asked."""
 
-    def by_inodes(self, kinds: tuple[str, ...], groups: tuple[str, ...], shapes: tuple[Shape, ...] = SHAPES) -> list[str]:
+    def by_thousands(self, kinds: tuple[str, ...], groups: tuple[str, ...], shapes: tuple[Shape, ...] = SHAPES) -> list[str]:
         """What is asked where the program knows these kinds and these groups are seen, in a search that has a candidate with a sign already."""
         asked: list[str] = []
 
@@ -153,20 +169,21 @@ class Asked(unittest.TestCase):
                                           surveys=types.SimpleNamespace(plan=plan), asking=types.SimpleNamespace(request=lambda _: request))
         it = Evident(cast(Any, search))
         it.__dict__["later_kinds"] = kinds
-        self.assertFalse(it.by_inodes(hunt, Aim((0, 1, 2), Span(0, 9), "why", by_inodes=shapes), 1))
-        self.assertTrue(not asked or it.by_inodes(hunt, Aim((0, 1, 2), Span(0, 9), "why", by_inodes=shapes), 0))
+        self.assertFalse(it.by_thousands(hunt, Aim((0, 1, 2), Span(0, 9), "why", by_thousands=shapes), 1))
+        self.assertTrue(not asked or it.by_thousands(hunt, Aim((0, 1, 2), Span(0, 9), "why", by_thousands=shapes), 0))
         return asked
 
     def test_known(self) -> None:
         """Only where the program knows the kind and a superblock was seen is anything asked; what is content ends the trials of the aim."""
-        self.assertEqual(self.by_inodes(("xfs5",), ("gpt", "xfs"))[:1], ["survey"])
+        for kinds, groups in ((("xfs5",), ("gpt", "xfs")), (("btrfstree",), ("btrfs",)), (("xfs5", "btrfstree"), ("btrfs", "xfs"))):
+            self.assertEqual(self.by_thousands(kinds, groups)[:1], ["survey"])
         for kinds, groups, shapes in (((), ("xfs",), SHAPES), (("extinode",), ("xfs",), SHAPES), (("xfs5",), ("ext",), SHAPES),
-                                      (("xfs5",), ("xfs",), ())):
-            self.assertEqual(self.by_inodes(kinds, groups, shapes), [])
+                                      (("xfs5",), ("btrfs",), SHAPES), (("btrfstree",), ("xfs",), SHAPES), (("xfs5",), ("xfs",), ())):
+            self.assertEqual(self.by_thousands(kinds, groups, shapes), [])
 
     def asked(self, aims: Sequence[Aim], untied: Sequence[Aim] = ()) -> list[tuple[Shape, ...]]:
-        """The shapes at which each of these asks inodes."""
-        return [aim.by_inodes for aim in plain.with_inodes(aims, untied)]
+        """The shapes at which each of these asks them."""
+        return [aim.by_thousands for aim in plain.with_thousands(aims, untied)]
 
     def test_aims(self) -> None:
         """Once where nothing ties the images, before copies that lie apart are looked for; and of what is tied where parity tells nothing."""

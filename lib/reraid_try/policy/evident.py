@@ -21,7 +21,7 @@ from ..evidence.shared import Place
 from ..evidence.shifts import Distances
 from ..evidence.ties import Ties, Told
 from ..evidence.unlike import Unlike
-from . import cures, inodes, mirrors, plain
+from . import cures, mirrors, plain, thousands
 from .cures import Family
 from .hunt import Hunt
 from .plain import Aim, Span
@@ -125,7 +125,7 @@ class Evident:
         ways = plain.perhaps_copied, plain.tied, plain.copied, plain.untied
         perhaps, tied, copied, untied = (of(found, part.images, part.span, self.options) for of in ways)
         others = [*self.unlike(asked, found, part), *perhaps, *tied, *copied, *self.alike(part), *untied]
-        return [*self.by_metadata(part), *plain.with_inodes(others, untied)]
+        return [*self.by_metadata(part), *plain.with_thousands(others, untied)]
 
     def alike(self, part: Part) -> list[Aim]:
         """What is tried where whole images are the same, as the copies of a RAID 1 or 10 are."""
@@ -191,7 +191,7 @@ class Evident:
         hunt = Hunt(self.options, search.commands, images, search.say_late, start=aim.span.first, asked=dict(aim.asked), tied=aim.tied)
         hunt.ask_places = functools.partial(self.places_of, aim)
         search.say_evidence(hunt)
-        if not self.by_inodes(hunt, aim, before) and not (aim.copied and self.copies(hunt, aim, before)):
+        if not self.by_thousands(hunt, aim, before) and not (aim.copied and self.copies(hunt, aim, before)):
             self.attempt(hunt, aim, before)
         search.why = ""
         return any(map(enough, self.since(before)))
@@ -256,12 +256,11 @@ class Evident:
         trial = self.search.say_trial(hunt, Trial(shape, chosen, cures.loosened(request, chosen[1:])), listing)
         return self.search.take(hunt, trial, listing.sets, lambda it: (read_word(it.text), hunt.word(it.text)))
 
-    def by_inodes(self, hunt: Hunt, aim: Aim, before: int) -> bool:
-        """The sets at which the most inodes of an XFS lie where their numbers say, where the program knows such inodes; it says whether the search
-        is at its end, or a candidate is content."""
-        if not aim.by_inodes or not inodes.are_told(hunt) or inodes.KIND not in self.later_kinds:
-            return False
-        return inodes.attempt_all(self.search, hunt, aim.by_inodes) or self.is_content(before)
+    def by_thousands(self, hunt: Hunt, aim: Aim, before: int) -> bool:
+        """The sets at which the most landmarks by the thousand lie where they say, where the program knows such; it says whether the search is at
+        its end, or a candidate is content."""
+        kinds = [kind for kind in thousands.seen(hunt) if kind in self.later_kinds] if aim.by_thousands else []
+        return bool(kinds) and (thousands.attempt_all(self.search, hunt, aim.by_thousands, kinds) or self.is_content(before))
 
     @functools.cached_property
     def later_kinds(self) -> tuple[str, ...]:

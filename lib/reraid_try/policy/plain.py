@@ -29,8 +29,8 @@ class Aim:
     """Images, by their numbers, that are searched as an array, in a part of each; the shapes that are tried, in order, and why. `asked` are operands
     that are asked for in each trial, as far as they are known; `copied` says that RAID 10 is tried before them, `tied` that parity ties
     them; `begin` is a row of the array, so that its data do not begin later, None where none is known; `moved` has the offset of each image, where
-    these are known and not the same; `apart` says how far apart the copies lie, where they do not lie side by side; `by_inodes` are the shapes at
-    which inodes are asked where they fit, before all else."""
+    these are known and not the same; `apart` says how far apart the copies lie, where they do not lie side by side; `by_thousands` are the shapes at
+    which landmarks by the thousand are asked where they fit, before all else."""
 
     images: tuple[int, ...]
     span: Span
@@ -42,7 +42,7 @@ class Aim:
     begin: int | None = None
     moved: tuple[int, ...] = ()
     apart: int | None = None
-    by_inodes: tuple[Shape, ...] = ()
+    by_thousands: tuple[Shape, ...] = ()
 
     @property
     def is_each(self) -> bool:
@@ -156,15 +156,15 @@ def untied(told: Told, numbers: Sequence[int], span: Span, options: Options) -> 
     return [Aim(tuple(numbers), span, f"nothing ties {ties.named(numbers)}, as at level 0 and where as many disks are lost as a level bears", shapes)]
 
 
-def with_inodes(aims: Sequence[Aim], untied_aims: Sequence[Aim]) -> list[Aim]:
-    """These aims, of which inodes too are asked, at the shapes at which parity tells nothing: of images that are tied as where as many disks are lost
-    as the level bears, and of the first aim over images that nothing ties. None where each image has an offset of its own."""
+def with_thousands(aims: Sequence[Aim], untied_aims: Sequence[Aim]) -> list[Aim]:
+    """These aims, of which landmarks by the thousand too are asked, at the shapes at which parity tells nothing: of images that are tied as where as
+    many disks are lost as the level bears, and of the first aim over images that nothing ties. None where each image has an offset of its own."""
     silent = tuple(shape for aim in untied_aims for shape in aim.shapes)
     first = next((aim for aim in aims if not aim.tied and not aim.is_each), None)
 
     def asked(aim: Aim) -> tuple[Shape, ...]:
-        """The shapes at which an aim asks inodes."""
+        """The shapes at which an aim asks them."""
         if aim.tied and not aim.is_each and not aim.shapes[0].parity:
             return tuple(shape for shape in aim.shapes if not shape.parity)
         return silent if aim is first else ()
-    return [dataclasses.replace(aim, by_inodes=asked(aim)) for aim in aims]
+    return [dataclasses.replace(aim, by_thousands=asked(aim)) for aim in aims]

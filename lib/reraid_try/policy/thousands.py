@@ -1,5 +1,5 @@
-"""What the inodes of an XFS tell where parity tells nothing: each says where it lies, and of hundreds most do at the true set alone. Plain shapes are
-asked for the sets at which the most of them do."""
+"""What landmarks tell that a file system has by the thousand, where parity tells nothing: each inode of an XFS, and each tree block of a btrfs, says
+where it lies, and of hundreds most do at the true set alone. Plain shapes are asked for the sets at which the most of them do."""
 
 import dataclasses
 from collections.abc import Sequence
@@ -20,15 +20,30 @@ from .trials import Trial
 if TYPE_CHECKING:
     from .search import Search
 
-# The kind of their groups, and that of the superblocks by which a file system is seen without them.
-KIND, SEEN_BY = "xfs5", "xfs"
-# So many inodes tell something at least; so many groups are asked, those with the most; more sets with as many tell nothing.
+# So many of them tell something at least; so many groups are asked, those with the most; more sets with as many tell nothing.
 LEAST_MARKS, MOST_GROUPS, MOST_SETS = 12, 2, 64
 
 
 @dataclasses.dataclass(frozen=True)
+class Marks:
+    """Such landmarks: the kind of their groups, that of the superblocks by which a file system is seen without them, what one is called, whose it is,
+    and what says where they lie."""
+
+    kind: str
+    seen_by: str
+    name: str
+    system: str
+    says: str
+
+
+INODES = Marks("xfs5", "xfs", "inode", "an XFS", "their numbers say")
+TREE_BLOCKS = Marks("btrfstree", "btrfs", "tree block", "a btrfs", "the tree of chunks says")
+ALL = {it.kind: it for it in (INODES, TREE_BLOCKS)}
+
+
+@dataclasses.dataclass(frozen=True)
 class Most:
-    """A shape, the plan that has the inodes of one group alone, and how many of them lie where their numbers say at the sets where the most do."""
+    """A shape, the plan that has one group of such landmarks alone, and how many of them lie where they say at the sets where the most do."""
 
     shape: Shape
     plan: Plan
@@ -36,37 +51,44 @@ class Most:
     fits: int
 
     @property
+    def marks(self) -> Marks:
+        """What the group is of."""
+        return ALL[self.group.kind]
+
+    @property
     def bounded(self) -> Plan:
         """The plan of these sets alone."""
         return self.plan.bounded(self.group.place, Bounds(len(self.group.marks), self.fits))
 
     def line(self, following: int | None) -> str:
-        """Why these sets are tried; at other sets so many inodes lie so at most, where that is known."""
-        said = f"{self.fits} of {counted(len(self.group.marks), 'inode')} of an XFS lie where their numbers say"
+        """Why these sets are tried; at other sets so many landmarks lie so at most, where that is known."""
+        marks = self.marks
+        said = f"{self.fits} of {counted(len(self.group.marks), marks.name)} of {marks.system} lie where {marks.says}"
         return said if following is None else f"{said}; at the next set {following} do"
 
 
-def are_told(hunt: Hunt) -> bool:
-    """Superblocks say where inodes lie."""
-    return any(group.kind == SEEN_BY for group in hunt.plan.groups)
+def seen(hunt: Hunt) -> list[str]:
+    """The kinds of whose file systems superblocks were seen."""
+    groups = {group.kind for group in hunt.plan.groups}
+    return [it.kind for it in ALL.values() if it.seen_by in groups]
 
 
-def groups_of(hunt: Hunt, shape: Shape) -> list[Group]:
-    """The groups with enough inodes, those with the most first."""
-    found = [group for group in asked_of(hunt, shape).groups if group.kind == KIND and len(group.marks) >= LEAST_MARKS]
+def groups_of(hunt: Hunt, shape: Shape, kinds: Sequence[str]) -> list[Group]:
+    """The groups of these kinds with enough landmarks, those with the most first."""
+    found = [group for group in asked_of(hunt, shape, kinds).groups if group.kind in kinds and len(group.marks) >= LEAST_MARKS]
     return sorted(found, key=lambda group: (-len(group.marks), group.place))[:MOST_GROUPS]
 
 
-def asked_of(hunt: Hunt, shape: Shape) -> Plan:
-    """The plan of a shape with nothing loosened, in which the inodes are groups as well."""
-    return hunt.surveys.plan(hunt.asking.request(shape).having(kinds=f"{surveys.KINDS},{KIND}"))
+def asked_of(hunt: Hunt, shape: Shape, kinds: Sequence[str]) -> Plan:
+    """The plan of a shape with nothing loosened, in which landmarks of these kinds are groups as well."""
+    return hunt.surveys.plan(hunt.asking.request(shape).having(kinds=",".join([surveys.KINDS, *kinds])))
 
 
-def most_of(hunt: Hunt, shapes: Sequence[Shape], group: Group) -> list[Most]:
-    """The shapes at whose sets the most inodes of a group lie where their numbers say: more than one where they are as many."""
+def most_of(hunt: Hunt, shapes: Sequence[Shape], group: Group, kinds: Sequence[str]) -> list[Most]:
+    """The shapes at whose sets the most landmarks of a group lie where they say: more than one where they are as many."""
     best: list[Most] = []
     for shape in shapes:
-        plan = asked_of(hunt, shape)
+        plan = asked_of(hunt, shape, kinds)
         alone = plan.without({it.place for it in plan.groups if it.place != group.place})
         fits = hunt.questions.most_fits(alone, group.place, best[0].fits - 1 if best else 0)
         if fits is not None:
@@ -75,7 +97,7 @@ def most_of(hunt: Hunt, shapes: Sequence[Shape], group: Group) -> list[Most]:
 
 
 def attempt(search: "Search", hunt: Hunt, most: Most) -> bool:
-    """The trial of the sets at which the most inodes lie where their numbers say; it says whether the search is at its end."""
+    """The trial of the sets at which the most of a group lie where they say; it says whether the search is at its end."""
     listing = hunt.program.listing(most.bounded)
     if not listing.whole or len(listing.sets) > MOST_SETS:
         return False
@@ -91,17 +113,17 @@ def attempt(search: "Search", hunt: Hunt, most: Most) -> bool:
 def taken(search: "Search", hunt: Hunt, most: Most, listing: Listing) -> bool:
     """Tests these sets as others are, by the landmarks that are not asked for here too; it says whether the search is at its end."""
     others = [group.place for group in hunt.plan.groups]
-    alone = cures.told("the inodes of an XFS alone, as many as fit", Family.ALONE, others)
+    alone = cures.told(f"the {most.marks.name}s of {most.marks.system} alone, as many as fit", Family.ALONE, others)
     trial = search.say_trial(hunt, Trial(most.shape, (alone,), hunt.asking.request(most.shape)), listing)
     return search.take(hunt, trial, listing.sets, lambda it: (read_word(it.text), hunt.word(it.text)))
 
 
-def attempt_all(search: "Search", hunt: Hunt, shapes: Sequence[Shape]) -> bool:
-    """The trials by the inodes of each group that has enough of them; it says whether the search is at its end."""
+def attempt_all(search: "Search", hunt: Hunt, shapes: Sequence[Shape], kinds: Sequence[str]) -> bool:
+    """The trials by each group of these kinds that has enough landmarks; it says whether the search is at its end."""
     try:
-        groups = groups_of(hunt, shapes[0])
-        search.report.bar.show("asks where inodes fit")
-        return any(attempt(search, hunt, most) for group in groups for most in most_of(hunt, shapes, group))
+        groups = groups_of(hunt, shapes[0], kinds)
+        search.report.bar.show("asks where landmarks by the thousand fit")
+        return any(attempt(search, hunt, most) for group in groups for most in most_of(hunt, shapes, group, kinds))
     except Refused as error:
         search.say_refused(error)
         return False

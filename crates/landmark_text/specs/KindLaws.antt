@@ -3,9 +3,9 @@
 use Rattle.std.proofs.Common.{◌≡◌, ℕ, ◌+◌, true, List, length, sum, get_or, cond, eqb, refl, sym, ap, ◌∙◌}
 use Rattle.std.specs.List.{list_all}
 use Rattle.mark_kinds.specs.declared.groups.GroupKind.{GroupKind}
-use Rattle.mark_kinds.specs.declared.groups.GroupKind.TheVariants.{Gpt as GptGroup, Ntfs, Xfs, Btrfs as BtrfsGroup, Lvm as LvmGroup, Ext as ExtGroup, Xfs5 as Xfs5Group}
+use Rattle.mark_kinds.specs.declared.groups.GroupKind.TheVariants.{Gpt as GptGroup, Ntfs, Xfs, Btrfs as BtrfsGroup, Lvm as LvmGroup, Ext as ExtGroup, Xfs5 as Xfs5Group, Btrfstree as BtrfstreeGroup}
 use Rattle.mark_kinds.specs.declared.sectors.Kind.{Kind}
-use Rattle.mark_kinds.specs.declared.sectors.Kind.TheVariants.{Gpt, Boot, FileRecord, Super, Agf, Agi, Btrfs, Lvm, Ext, Xfs5}
+use Rattle.mark_kinds.specs.declared.sectors.Kind.TheVariants.{Gpt, Boot, FileRecord, Super, Agf, Agi, Btrfs, Lvm, Ext, Xfs5, Btrfstree}
 use Rattle.value_text.specs.Spelling.{is_plain, IsFieldName}
 use Rattle.landmark_text.specs.Names.{group_name, kind_name}
 
@@ -17,7 +17,8 @@ group_at weight =
     (cond (eqb weight 123) Xfs
     (cond (eqb weight 103) BtrfsGroup
     (cond (eqb weight 111) LvmGroup
-    (cond (eqb weight 104) ExtGroup Xfs5Group)))))
+    (cond (eqb weight 104) ExtGroup
+    (cond (eqb weight 124) Xfs5Group BtrfstreeGroup))))))
 
 weight_of : List ℕ → ℕ
 weight_of name = get_or name 0 0 + length name
@@ -31,6 +32,7 @@ group_back BtrfsGroup = refl
 group_back LvmGroup = refl
 group_back ExtGroup = refl
 group_back Xfs5Group = refl
+group_back BtrfstreeGroup = refl
 
 one_group : (x y : GroupKind) → group_name x ≡ group_name y → x ≡ y
 one_group x y e = sym (group_back x) ∙ ap (λ (name : List ℕ). group_at (weight_of name)) e ∙ group_back y
@@ -43,6 +45,7 @@ group_has_no_separator BtrfsGroup = refl
 group_has_no_separator LvmGroup = refl
 group_has_no_separator ExtGroup = refl
 group_has_no_separator Xfs5Group = refl
+group_has_no_separator BtrfstreeGroup = refl
 
 pub group_law : IsFieldName group_name (λ kind. Unit {0})
 group_law = record { one_value = λ x y p q. one_group x y; has_no_separator = λ x p. group_has_no_separator x }
@@ -58,7 +61,8 @@ kind_at weight =
     (cond (eqb weight 305) Agi
     (cond (eqb weight 545) Btrfs
     (cond (eqb weight 335) Lvm
-    (cond (eqb weight 337) Ext Xfs5))))))))
+    (cond (eqb weight 337) Ext
+    (cond (eqb weight 390) Xfs5 Btrfstree)))))))))
 
 kind_back : (kind : Kind) → kind_at (sum (kind_name kind)) ≡ kind
 unfolding kind_at
@@ -72,6 +76,7 @@ kind_back Btrfs = refl
 kind_back Lvm = refl
 kind_back Ext = refl
 kind_back Xfs5 = refl
+kind_back Btrfstree = refl
 
 one_kind : (x y : Kind) → kind_name x ≡ kind_name y → x ≡ y
 one_kind x y e = sym (kind_back x) ∙ ap (λ (name : List ℕ). kind_at (sum name)) e ∙ kind_back y
@@ -87,6 +92,7 @@ kind_has_no_separator Btrfs = refl
 kind_has_no_separator Lvm = refl
 kind_has_no_separator Ext = refl
 kind_has_no_separator Xfs5 = refl
+kind_has_no_separator Btrfstree = refl
 
 pub kind_law : IsFieldName kind_name (λ kind. Unit {0})
 kind_law = record { one_value = λ x y p q. one_kind x y; has_no_separator = λ x p. kind_has_no_separator x }

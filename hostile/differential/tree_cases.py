@@ -103,7 +103,7 @@ def trees_survey(rng, operands):
         if len(block) > SECTOR and rng.random() < 0.9:
             sector = min(sector, len(image) // SECTOR - LEAF)
         image[sector * SECTOR:sector * SECTOR + len(block)] = block[:len(image) - sector * SECTOR]
-        if rng.random() < 0.9:
+        if rng.random() < 0.9 and len(free) > LEAF:
             free = [it for it in free if it[0] is not image or not sector <= it[1] < sector + len(block) // SECTOR]
     kinds = rng.choice(["kinds=btrfstree"] * 3 + ["kinds=xfs5,btrfstree", "kinds=gpt,ntfs,xfs,btrfs,lvm,ext,xfs5,btrfstree", "kinds=btrfs"])
     if rng.random() < 0.05:

@@ -17,13 +17,13 @@ use Rattle.landmark_rules.specs.declared.limits.TheConstants.{MOST_MARKS, MOST_O
 use Rattle.survey_engine.specs.Kept.{with_number}
 use Rattle.survey_engine.specs.Origins.{first_sector, has_entries, is_followed, entries_follow, hints_at, hints_by, origins_of, with_numbers}
 use Rattle.survey_engine.specs.Sightings.{is_same_kind, sector_of}
-use Rattle.survey_engine.specs.Surveys.{entries_read, found_in, survey_reads}
+use Rattle.survey_engine.specs.Surveys.{entries_read, found_in}
 use Rattle.survey_engine.specs.declared.ask.Ask.{Ask}
 use Rattle.survey_engine.specs.Landmarks.{kind_of}
 use Rattle.landmark_rules.specs.Groups.{kind_place}
 use Rattle.survey_engine.specs.declared.landmark.GptTable.{GptTable}
 use Rattle.survey_engine.specs.declared.landmark.Landmark.{Landmark}
-use Rattle.survey_engine.specs.declared.landmark.Landmark.TheVariants.{Gpt, Boot, FileRecord, Super, Super5, Agf, Agi, Btrfs, Lvm, Ext, Inode}
+use Rattle.survey_engine.specs.declared.landmark.Landmark.TheVariants.{Gpt, Boot, FileRecord, Super, Super5, Agf, Agi, Btrfs, Lvm, Ext, Inode, Tree}
 use Rattle.survey_engine.specs.declared.sighting.Sighting.{Sighting}
 use Rattle.survey_engine.proofs.Numbers.{with_more, with_none}
 
@@ -74,6 +74,7 @@ not_gpt (Btrfs b) sector long bytes never = refl
 not_gpt (Lvm n) sector long bytes never = refl
 not_gpt (Ext x) sector long bytes never = refl
 not_gpt (Inode i) sector long bytes never = refl
+not_gpt (Tree t) sector long bytes never = refl
 
 -- none but a header has hints
 pub no_header : (lengths : List ℕ) (images : List (List ℕ)) (s : Sighting) → ((h : GptTable) → s.landmark ≡ Gpt h → ⊥) → hints_at lengths images s ≡ []
@@ -217,6 +218,7 @@ followed_few (Btrfs b) sector long = omega arith
 followed_few (Lvm n) sector long = omega arith
 followed_few (Ext x) sector long = omega arith
 followed_few (Inode i) sector long = omega arith
+followed_few (Tree t) sector long = omega arith
 
 followed_are_few : (lengths : List ℕ) (found : List Sighting) → count_by (is_followed lengths) found ≤ count_by (is_same_kind GptKind) found
 unfolding is_followed
@@ -224,23 +226,10 @@ followed_are_few lengths found =
     sum_by-le-sum_by (λ (s : Sighting). cond (is_followed lengths s) 1 0) (λ (s : Sighting). cond (is_same_kind GptKind s) 1 0) found (λ s. followed_few s.landmark s.sector (slice_index lengths s.image))
 
 -- where the bytes are known the sightings are those of the images
-entries_of : (told : Option (List (List ℕ))) (ask : Ask) (attached : List Image) (lengths : List ℕ) (found : List Sighting) → lengths ≡ lengths_of attached → IfSome told (λ bytes. found ≡ found_in ask attached bytes) →
+pub entries_of : (told : Option (List (List ℕ))) (ask : Ask) (attached : List Image) (lengths : List ℕ) (found : List Sighting) → lengths ≡ lengths_of attached → IfSome told (λ bytes. found ≡ found_in ask attached bytes) →
     count_by (is_same_kind GptKind) found ≤ MOST_MARKS → count_by (is_followed lengths) found ≤ entries_read told ask attached
 entries_of None ask attached lengths found are is few = omega (arith, followed_are_few lengths found, few)
 entries_of (Some bytes) ask attached lengths found are is few =
     let same : count_by (is_followed lengths) found ≡ count_by (is_followed (lengths_of attached)) (found_in ask attached bytes) =
     ap (λ (ns : List ℕ). count_by (is_followed ns) found) are ∙ ap (λ (l : List Sighting). count_by (is_followed (lengths_of attached)) l) is in
     omega (arith, same)
-
--- what was read for the sightings
-pub sweep_read : (a b : Seen) (ask : Ask) → OnlyReads a b (length a.attached * (ask.end - slice_index ask.bounds.offsets.items 0)) → OnlyReads a b (survey_reads ask a.attached)
-unfolding survey_reads
-sweep_read a b ask ab = reads_up a b ab (omega arith)
-
--- and then for their entries
-pub survey_read : (a b c : Seen) (ask : Ask) (lengths : List ℕ) (found : List Sighting) → lengths ≡ lengths_of a.attached → IfSome (told_all a.attached) (λ bytes. found ≡ found_in ask a.attached bytes) →
-    count_by (is_same_kind GptKind) found ≤ MOST_MARKS → OnlyReads a b (length a.attached * (ask.end - slice_index ask.bounds.offsets.items 0)) → OnlyReads b c (count_by (is_followed lengths) found) →
-    OnlyReads a c (survey_reads ask a.attached)
-unfolding survey_reads
-survey_read a b c ask lengths found are is few ab bc =
-    reads_up a c (reads_join a b c ab bc) (omega (arith, entries_of (told_all a.attached) ask a.attached lengths found are is few))

@@ -1,5 +1,5 @@
 -- Byte 3 says which kind of landmark a sector may be by its front.
-use Rattle.std.proofs.Common.{◌≡◌, ◌≢◌, ℕ, List, Bool, true, false, cond, Some, None, refl, sym, ◌∙◌, arith, slice_index}
+use Rattle.std.proofs.Common.{◌≡◌, ◌≢◌, ◌≤◌, ℕ, zero, suc, List, Bool, true, false, cond, Some, None, refl, sym, ◌∙◌, arith, slice_index}
 use Rattle.std.specs.Option.{option_map}
 use Rattle.gpt_marks.specs.Header.{is_gpt_header}
 use Rattle.ntfs_marks.specs.Boot.{is_ntfs_boot, ntfs_boot, ntfs_boot_of}
@@ -8,6 +8,8 @@ use Rattle.xfs_marks.specs.Superblock.{is_xfs_super}
 use Rattle.xfs_marks.specs.Group.{is_xfs_agf, is_xfs_agi}
 use Rattle.more_marks.specs.Btrfs.{is_btrfs_super}
 use Rattle.more_marks.specs.Lvm.{is_lvm_label}
+use Rattle.std.proofs.lemmas.Bool.Decides.{nat_tests}
+use Rattle.btrfstree.specs.Header.{is_block, is_counted, tree_block}
 use Rattle.survey_engine.proofs.FourthByte.{gpt_byte, boot_byte, record_byte, super_byte, agf_byte, agi_byte, label_byte, btrfs_byte}
 use Rattle.survey_engine.specs.Landmarks.{front_in, head_in, record_or_label_in, super_in}
 use Rattle.survey_engine.specs.declared.landmark.Landmark.{Landmark}
@@ -23,6 +25,23 @@ not_gpt s other = refuted (is_gpt_header s) (λ yes. other (gpt_byte s yes))
 
 pub not_btrfs : (s : List ℕ) → slice_index s 64 ≢ 95 → is_btrfs_super s ≡ false
 not_btrfs s other = refuted (is_btrfs_super s) (λ yes. other (btrfs_byte s yes))
+
+revision : (s : List ℕ) → is_counted s ≡ true → slice_index s 63 ≤ 1
+unfolding is_counted is_block
+revision s passes = grind (arith, nat_tests)
+
+-- a sector with a later revision of back references is no tree block
+not_counted : (s : List ℕ) → is_counted s ≡ false → tree_block s ≡ None
+unfolding tree_block
+not_counted s fails = rw fails refl
+
+pub other_revision : (s : List ℕ) (byte : ℕ) → slice_index s 63 ≡ byte → byte ≢ 0 → byte ≢ 1 → tree_block s ≡ None
+other_revision s byte is neither nor = not_counted s (refuted (is_counted s) (λ passes. let few : slice_index s 63 ≤ 1 = revision s passes in absurd (one_of byte (omega (arith, is, few)) neither nor)))
+  where
+    one_of : (n : ℕ) → n ≤ 1 → n ≢ 0 → n ≢ 1 → ⊥
+    one_of zero few neither nor = neither refl
+    one_of (suc zero) few neither nor = nor refl
+    one_of (suc (suc n)) few neither nor = absurd (omega arith)
 
 not_boot : (s : List ℕ) (c : ℕ) → slice_index s 3 ≡ c → c ≢ 78 → is_ntfs_boot s ≡ false
 not_boot s c is other = refuted (is_ntfs_boot s) (λ yes. other (sym is ∙ boot_byte s yes))

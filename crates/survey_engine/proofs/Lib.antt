@@ -15,3 +15,4 @@ pub mod Owners
 pub mod Marks
 pub mod Once
 pub mod Law
+pub mod Leaves

@@ -22,13 +22,14 @@ use Rattle.landmark_rules.specs.declared.marks.Mark.{Mark}
 use Rattle.landmark_rules.specs.declared.marks.Rule.{Rule}
 use Rattle.landmark_rules.specs.declared.marks.Rule.TheVariants.{At, Either, Every}
 use Rattle.survey_engine.specs.Landmarks.{kind_of}
-use Rattle.survey_engine.specs.Owners.{is_same_boot, is_same_owner, is_same_super, is_same_volume, mark_in, owners_of, rule_in, volume_of}
+use Rattle.survey_engine.specs.Owners.{is_same_boot, is_same_owner, is_same_super, is_same_volume, mark_in, owners_of, rule_in, tree_rule, volume_of}
 use Rattle.survey_engine.specs.Sightings.{is_same_kind, sighted_at, Place}
 use Rattle.survey_engine.specs.declared.landmark.GptTable.{GptTable}
 use Rattle.survey_engine.specs.declared.landmark.Landmark.{Landmark}
-use Rattle.survey_engine.specs.declared.landmark.Landmark.TheVariants.{Gpt, Boot, FileRecord, Super, Super5, Agf, Agi, Btrfs as BtrfsSector, Lvm, Ext as ExtSector, Inode}
+use Rattle.survey_engine.specs.declared.landmark.Landmark.TheVariants.{Gpt, Boot, FileRecord, Super, Super5, Agf, Agi, Btrfs as BtrfsSector, Lvm, Ext as ExtSector, Inode, Tree}
+use Rattle.survey_engine.specs.declared.landmark.TreeSeen.{TreeSeen}
 use Rattle.survey_engine.specs.declared.owner.Owner.{Owner}
-use Rattle.survey_engine.specs.declared.owner.Owner.TheVariants.{Table, Ntfs, Xfs, Btrfs, Label, Ext, Xfs5}
+use Rattle.survey_engine.specs.declared.owner.Owner.TheVariants.{Table, Ntfs, Xfs, Btrfs, Label, Ext, Xfs5, Trees}
 use Rattle.survey_engine.specs.declared.sighting.Sighting.{Sighting}
 use Rattle.survey_engine.proofs.Owners.{owners_once}
 
@@ -66,6 +67,7 @@ takes_boot alone at c (Btrfs f) takes = takes
 takes_boot alone at c (Label i s) takes = takes
 takes_boot alone at c (Ext v) takes = takes
 takes_boot alone at c (Xfs5 x) takes = takes
+takes_boot alone at c (Trees u) takes = takes
 
 takes_super : (alone : Bool) (at : Place) (y : XfsSuper) (o : Owner) → is_some (rule_in o alone at (Super y)) ≡ true → is_same_owner o (Xfs y) ≡ true
 unfolding rule_in
@@ -76,6 +78,7 @@ takes_super alone at y (Btrfs f) takes = takes
 takes_super alone at y (Label i s) takes = takes
 takes_super alone at y (Ext v) takes = takes
 takes_super alone at y (Xfs5 x) takes = takes
+takes_super alone at y (Trees u) takes = takes
 
 takes_super5 : (alone : Bool) (at : Place) (y : XfsSuper) (places : XfsInodes) (o : Owner) → is_some (rule_in o alone at (Super5 y places)) ≡ true → is_same_owner o (Xfs y) ≡ true
 unfolding rule_in
@@ -86,6 +89,7 @@ takes_super5 alone at y places (Btrfs f) takes = takes
 takes_super5 alone at y places (Label i s) takes = takes
 takes_super5 alone at y places (Ext v) takes = takes
 takes_super5 alone at y places (Xfs5 x) takes = takes
+takes_super5 alone at y places (Trees u) takes = takes
 
 takes_header : (alone : Bool) (at : Place) (t : GptTable) (o : Owner) → is_some (rule_in o alone at (Gpt t)) ≡ true → is_same_owner o Table ≡ true
 unfolding rule_in
@@ -96,6 +100,7 @@ takes_header alone at t (Btrfs f) takes = takes
 takes_header alone at t (Label i s) takes = takes
 takes_header alone at t (Ext v) takes = takes
 takes_header alone at t (Xfs5 x) takes = takes
+takes_header alone at t (Trees u) takes = takes
 
 takes_btrfs : (alone : Bool) (at : Place) (y : BtrfsSuper) (o : Owner) → is_some (rule_in o alone at (BtrfsSector y)) ≡ true → is_same_owner o (Btrfs y.fsid) ≡ true
 unfolding rule_in
@@ -106,6 +111,7 @@ takes_btrfs alone at y (Btrfs f) takes = sym (passed (bytes_eq f y.fsid) (At (y.
 takes_btrfs alone at y (Label i s) takes = takes
 takes_btrfs alone at y (Ext v) takes = takes
 takes_btrfs alone at y (Xfs5 x) takes = takes
+takes_btrfs alone at y (Trees u) takes = takes
 
 takes_label : (alone : Bool) (at : Place) (n : ℕ) (o : Owner) → is_some (rule_in o alone at (Lvm n)) ≡ true → is_same_owner o (Label at.image at.sector) ≡ true
 unfolding rule_in
@@ -116,6 +122,7 @@ takes_label alone at n (Btrfs f) takes = takes
 takes_label alone at n (Label i s) takes = sym (passed (i == at.image && s == at.sector) (At n)) ∙ takes
 takes_label alone at n (Ext v) takes = takes
 takes_label alone at n (Xfs5 x) takes = takes
+takes_label alone at n (Trees u) takes = takes
 
 takes_copy : (alone : Bool) (at : Place) (y : ExtSuper) (o : Owner) → is_some (rule_in o alone at (ExtSector y)) ≡ true → is_same_owner o (Ext (volume_of y)) ≡ true
 unfolding rule_in
@@ -126,6 +133,7 @@ takes_copy alone at y (Btrfs f) takes = takes
 takes_copy alone at y (Label i s) takes = takes
 takes_copy alone at y (Ext v) takes = sym (passed (is_same_volume v (volume_of y)) (At y.copy_sector)) ∙ takes
 takes_copy alone at y (Xfs5 x) takes = takes
+takes_copy alone at y (Trees u) takes = takes
 
 -- an owner of inodes with an identifier
 of_uuid : List ℕ → XfsInodes
@@ -144,6 +152,22 @@ takes_inode alone at i (Btrfs f) takes = takes
 takes_inode alone at i (Label j s) takes = takes
 takes_inode alone at i (Ext v) takes = takes
 takes_inode alone at i (Xfs5 x) takes = placed_passed (bytes_eq x.uuid i.uuid) (inode_sector x i.number) takes
+takes_inode alone at i (Trees u) takes = takes
+
+ruled_passed : (b : Bool) (rule : Option Rule) → is_some (cond b rule None) ≡ true → b ≡ true
+ruled_passed true rule takes = refl
+ruled_passed false rule takes = takes
+
+takes_tree : (alone : Bool) (at : Place) (t : TreeSeen) (o : Owner) → is_some (rule_in o alone at (Tree t)) ≡ true → is_same_owner o (Trees t.block.identifier) ≡ true
+unfolding rule_in
+takes_tree alone at t Table takes = takes
+takes_tree alone at t (Ntfs b) takes = takes
+takes_tree alone at t (Xfs x) takes = takes
+takes_tree alone at t (Btrfs f) takes = takes
+takes_tree alone at t (Label j s) takes = takes
+takes_tree alone at t (Ext v) takes = takes
+takes_tree alone at t (Xfs5 x) takes = takes
+takes_tree alone at t (Trees u) takes = ruled_passed (bytes_eq u t.block.identifier) (tree_rule t) takes
 
 none_alone_record : (at : Place) (r : NtfsRecord) (o : Owner) → is_some (rule_in o false at (FileRecord r)) ≡ false
 unfolding rule_in
@@ -154,6 +178,7 @@ none_alone_record at r (Btrfs f) = refl
 none_alone_record at r (Label i s) = refl
 none_alone_record at r (Ext v) = refl
 none_alone_record at r (Xfs5 x) = refl
+none_alone_record at r (Trees u) = refl
 
 none_alone_agf : (at : Place) (g : ℕ) (o : Owner) → is_some (rule_in o false at (Agf g)) ≡ false
 unfolding rule_in
@@ -164,6 +189,7 @@ none_alone_agf at g (Btrfs f) = refl
 none_alone_agf at g (Label i s) = refl
 none_alone_agf at g (Ext v) = refl
 none_alone_agf at g (Xfs5 x) = refl
+none_alone_agf at g (Trees u) = refl
 
 none_alone_agi : (at : Place) (g : ℕ) (o : Owner) → is_some (rule_in o false at (Agi g)) ≡ false
 unfolding rule_in
@@ -174,6 +200,7 @@ none_alone_agi at g (Btrfs f) = refl
 none_alone_agi at g (Label i s) = refl
 none_alone_agi at g (Ext v) = refl
 none_alone_agi at g (Xfs5 x) = refl
+none_alone_agi at g (Trees u) = refl
 
 alone_or : (owners : List Owner) (at : Place) (l : Landmark) (alone : Bool) → eqb (length owners) 1 ≡ alone → ((o : Owner) → is_some (rule_in o false at l) ≡ false) → count_by (λ o. is_some (rule_in o alone at l)) owners ≤ 1
 alone_or owners at l true e none = let one : length owners ≡ 1 = eqb-true (length owners) 1 e in omega (arith, count_by-le-length (λ o. is_some (rule_in o true at l)) owners)
@@ -197,6 +224,8 @@ taken_once kind found at (ExtSector y) =
     omega (arith, fewer (λ o. is_some (rule_in o (length (owners_of kind found) == 1) at (ExtSector y))) (λ o. is_same_owner o (Ext (volume_of y))) (takes_copy (length (owners_of kind found) == 1) at y) (owners_of kind found), owners_once kind found (Ext (volume_of y)))
 taken_once kind found at (Inode i) =
     omega (arith, fewer (λ o. is_some (rule_in o (length (owners_of kind found) == 1) at (Inode i))) (λ o. is_same_owner o (Xfs5 (of_uuid i.uuid))) (takes_inode (length (owners_of kind found) == 1) at i) (owners_of kind found), owners_once kind found (Xfs5 (of_uuid i.uuid)))
+taken_once kind found at (Tree t) =
+    omega (arith, fewer (λ o. is_some (rule_in o (length (owners_of kind found) == 1) at (Tree t))) (λ o. is_same_owner o (Trees t.block.identifier)) (takes_tree (length (owners_of kind found) == 1) at t) (owners_of kind found), owners_once kind found (Trees t.block.identifier))
 taken_once kind found at (FileRecord r) = alone_or (owners_of kind found) at (FileRecord r) (length (owners_of kind found) == 1) refl (none_alone_record at r)
 taken_once kind found at (Agf g) = alone_or (owners_of kind found) at (Agf g) (length (owners_of kind found) == 1) refl (none_alone_agf at g)
 taken_once kind found at (Agi g) = alone_or (owners_of kind found) at (Agi g) (length (owners_of kind found) == 1) refl (none_alone_agi at g)

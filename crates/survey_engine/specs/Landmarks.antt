@@ -16,13 +16,16 @@ use Rattle.xfs5.specs.Inode.{xfs_inode}
 use Rattle.xfs5.specs.Places.{xfs_inodes, is_sound as is_sound_place}
 use Rattle.xfs5.specs.declared.inode.XfsInode.{XfsInode}
 use Rattle.xfs5.specs.declared.places.XfsInodes.{XfsInodes}
+use Rattle.btrfstree.specs.Header.{tree_block}
+use Rattle.btrfstree.specs.declared.header.TreeBlock.{TreeBlock}
 use Rattle.mark_kinds.specs.Table.{group_of, is_group_asked}
 use Rattle.mark_kinds.specs.declared.looking.Kinds.{Kinds}
 use Rattle.mark_kinds.specs.declared.sectors.Kind.{Kind}
-use Rattle.mark_kinds.specs.declared.sectors.Kind.TheVariants.{Gpt as GptKind, Boot as BootKind, FileRecord as RecordKind, Super as SuperKind, Agf as AgfKind, Agi as AgiKind, Btrfs as BtrfsKind, Lvm as LvmKind, Ext as ExtKind, Xfs5 as Xfs5Kind}
+use Rattle.mark_kinds.specs.declared.sectors.Kind.TheVariants.{Gpt as GptKind, Boot as BootKind, FileRecord as RecordKind, Super as SuperKind, Agf as AgfKind, Agi as AgiKind, Btrfs as BtrfsKind, Lvm as LvmKind, Ext as ExtKind, Xfs5 as Xfs5Kind, Btrfstree as BtrfstreeKind}
 use Rattle.survey_engine.specs.declared.landmark.GptTable.{GptTable}
 use Rattle.survey_engine.specs.declared.landmark.Landmark.{Landmark}
-use Rattle.survey_engine.specs.declared.landmark.Landmark.TheVariants.{Gpt, Boot, FileRecord, Super, Super5, Agf, Agi, Btrfs, Lvm, Ext, Inode}
+use Rattle.survey_engine.specs.declared.landmark.TreeSeen.{TreeSeen}
+use Rattle.survey_engine.specs.declared.landmark.Landmark.TheVariants.{Gpt, Boot, FileRecord, Super, Super5, Agf, Agi, Btrfs, Lvm, Ext, Inode, Tree}
 
 -- the kind of a landmark, without its numbers
 abbrev pub kind_of : Landmark → Kind
@@ -37,6 +40,7 @@ kind_of (Btrfs b) = BtrfsKind
 kind_of (Lvm n) = LvmKind
 kind_of (Ext x) = ExtKind
 kind_of (Inode i) = Xfs5Kind
+kind_of (Tree t) = BtrfstreeKind
 
 -- the head of an allocation group of XFS in a sector
 unfoldable pub head_in : List ℕ → Option Landmark
@@ -92,11 +96,19 @@ inner_in s =
 unfoldable pub inode_in : List ℕ → Option XfsInode
 inode_in s = option_and_then (λ inode. if inode.number % 128 == 0 then Some inode else None) (xfs_inode s [])
 
+-- a tree block of btrfs of which nothing is told yet
+abbrev pub untold : TreeBlock → Landmark
+untold block = Tree (record { block = block; told = None; first = None; second = None })
+
+-- such an inode, or the tree block of btrfs that begins in a sector
+unfoldable pub last_in : List ℕ → Option Landmark
+last_in s = option_or (option_map Inode (inode_in s)) (option_map untold (tree_block s))
+
 -- the landmark that a sector is, if it is one, on a disk whose blocks have `unit` sectors. A header of a
 -- partition table is nothing else, wherever it lies, a sector that is a landmark by its front is none of btrfs or
--- ext, and an inode is what is no other landmark
+-- ext, an inode is what is none of these, and a tree block of btrfs what is no other landmark
 unfoldable pub landmark_in : ℕ → List ℕ → Option Landmark
-landmark_in unit s = if is_gpt_header s then table_in unit (gpt_header_of s) else option_or (front_in s) (option_or (inner_in s) (option_map Inode (inode_in s)))
+landmark_in unit s = if is_gpt_header s then table_in unit (gpt_header_of s) else option_or (front_in s) (option_or (inner_in s) (last_in s))
 
 -- a landmark says where inodes lie
 abbrev pub has_inodes : Landmark → Bool
@@ -129,3 +141,4 @@ IsSound (Btrfs b) = IsTrue (is_super_address b.address)
 IsSound (Lvm n) = n < 2 ^ 55
 IsSound (Ext x) = x.copy_sector < 2 ^ 55
 IsSound (Inode i) = Unit {0}
+IsSound (Tree t) = Unit {0}

@@ -4,6 +4,7 @@ pub mod Landmarks
 pub mod Exclusion
 pub mod Sightings
 pub mod Blocks
+pub mod Telling
 pub mod Owners
 pub mod Origins
 pub mod Surveys

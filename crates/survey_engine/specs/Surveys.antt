@@ -11,6 +11,7 @@ use Rattle.search_plan.specs.declared.plan.Plan.{Plan}
 use Rattle.survey_engine.specs.Origins.{is_followed, origins_of}
 use Rattle.survey_engine.specs.Owners.{groups_of}
 use Rattle.survey_engine.specs.Sightings.{counted, sightings}
+use Rattle.survey_engine.specs.Telling.{is_leaf, told}
 use Rattle.survey_engine.specs.declared.ask.Ask.{Ask}
 use Rattle.survey_engine.specs.declared.sighting.Sighting.{Sighting}
 use Rattle.survey_engine.specs.declared.planning.SurveyFault.{SurveyFault}
@@ -42,10 +43,16 @@ found_in ask attached images = counted (sightings ask (lengths_of attached) imag
 abbrev pub entries_read : Option (List (List ℕ)) → Ask → List Image → ℕ
 entries_read told ask attached = option_map_or (λ images. count_by (is_followed (lengths_of attached)) (found_in ask attached images)) told 4096
 
--- the most sectors that it reads: each of each image from the smallest offset to the end once, and those of entries
+-- the most sectors of leaves of trees of chunks that it reads: 32 for each that counts and that its image has whole, where the bytes
+-- are known, and else 32 * 4,096
+abbrev pub leaves_read : Option (List (List ℕ)) → Ask → List Image → ℕ
+leaves_read bytes ask attached = option_map_or (λ images. 32 * count_by (is_leaf (lengths_of attached)) (found_in ask attached images)) bytes (32 * 4096)
+
+-- the most sectors that it reads: each of each image from the smallest offset to the end once, those of entries, and those of leaves
 unfoldable pub survey_reads : Ask → List Image → ℕ
 survey_reads ask attached =
     length attached * (ask.end - slice_index ask.bounds.offsets.items 0) + entries_read (told_all attached) ask attached
+    + leaves_read (told_all attached) ask attached
 
 -- what the plan repeats
 pub record Repeats (ask : Ask) (attached : List Image) (plan : Plan) : Type 0 where
@@ -57,9 +64,9 @@ pub record Repeats (ask : Ask) (attached : List Image) (plan : Plan) : Type 0 wh
   pub least : plan.tests.least ≡ ask.tests.least
   pub each : plan.each ≡ ask.each
 
--- what it adds, by the images' bytes
+-- what it adds, by the images' bytes: groups of the sightings with what leaves tell of them, and origins
 pub record Adds (ask : Ask) (attached : List Image) (images : List (List ℕ)) (plan : Plan) : Type 0 where
-  pub groups : plan.groups ≡ groups_of ask.kinds (found_in ask attached images)
+  pub groups : plan.groups ≡ groups_of ask.kinds (told (lengths_of attached) images (found_in ask attached images))
   pub origins : plan.tests.origins.items ≡ origins_of ask.tests.origins.items (lengths_of attached) images (found_in ask attached images)
 
 -- a survey ends without a plan where the images failed, and their count of faults rose, or where memory ran out, and

@@ -1,19 +1,19 @@
 //! The sightings that count.
-ghost use Rattle.std.specs.Prelude.{◌≡◌, [], OnErr, OnOk};
+ghost use Rattle.std.specs.Prelude.{◌≡◌, [], ◌∷◌, ◌++◌, OnErr, OnOk};
 ghost use Rattle.survey_engine.specs.Kept.{kept_with};
 ghost use Rattle.survey_engine.specs.Sightings.{is_early};
 
 use crate::sighting::Sighting;
 use landmark_rules::MOST_MARKS;
 use mark_kinds::KIND_COUNT;
-use outside::{ListOf, Memory};
+use outside::Memory;
 use std::alloc::Global;
 use std::marker::Model;
 
 /// The sightings that count, with how many there are of each kind. Contracts see them as their list.
 #[derive(Drop)]
 pub struct Counter {
-    found: ListOf<Sighting>,
+    found: Vec<Sighting>,
     /// How many there are of each kind, by the kind's place.
     counts: [usize; KIND_COUNT],
 }
@@ -27,9 +27,9 @@ impl Model for Counter {
 
     ghost Value = { List Sighting };
 
-    ghost view = { λ c. c.found };
+    ghost view = { λ c. c.found.items };
 
-    ghost invariant = { λ c. (kind : Kind) → slice_index c.counts (kind_place kind) ≡ count_by (is_same_kind kind) c.found };
+    ghost invariant = { λ c. (kind : Kind) → slice_index c.counts (kind_place kind) ≡ count_by (is_same_kind kind) c.found.items };
 }
 
 impl Counter {
@@ -38,7 +38,7 @@ impl Counter {
         ensures { result ≡ [] }
     {
         Counter {
-            found: ListOf::new(alloc),
+            found: Vec::new(alloc),
             counts: [0; KIND_COUNT],
         }
     }
@@ -50,16 +50,27 @@ impl Counter {
     {
         let kind = sighting.landmark.kind().place();
         if self.counts[kind] < MOST_MARKS {
-            self.found.push(sighting)?;
+            push(&mut self.found, sighting)?;
             self.counts[kind] += 1;
         }
         Ok(())
     }
 
-    /// The sightings as a list.
-    pub fn into_list(self) -> ListOf<Sighting>
-        ensures { result ≡ self }
+    /// The sightings in their order.
+    pub fn into_vec(self) -> Vec<Sighting>
+        ensures { result.items ≡ self }
     {
         self.found
+    }
+}
+
+/// Appends an item, or leaves the list as it was.
+fn push<T: Drop>(items: &mut Vec<T>, item: T) -> Result<(), Memory>
+    ensures ok { OnOk result (items.new.items ≡ items.old.items ++ item ∷ []) }
+    ensures err { OnErr result (items.new.items ≡ items.old.items) }
+{
+    match items.push(item) {
+        Ok(()) => Ok(()),
+        Err(_) => Err(Memory),
     }
 }

@@ -14,7 +14,7 @@ use crate::count::Counter;
 use crate::planning::SurveyFault;
 use crate::sighting::{Sighting, first_sector, sighting_in};
 use crate::sweep::Sweep;
-use outside::{Images, ListOf, Memory};
+use outside::{Images, Memory};
 use raid_params::MOST;
 use std::alloc::Global;
 
@@ -25,12 +25,12 @@ pub fn gather<I: Images>(
     images: &mut I,
     ask: &Ask,
     lengths: &[u64],
-) -> Result<ListOf<Sighting>, SurveyFault>
+) -> Result<Vec<Sighting>, SurveyFault>
     requires set { IsSurveyable ask.now (I.seen images.old).attached }
     requires lengths { lengths.now ≡ lengths_of (I.seen images.old).attached }
     ensures told { IfOk result (λ found. IfSome (told_all (I.seen images.old).attached)
-        (λ bytes. found ≡ found_in ask.now (I.seen images.old).attached bytes)) }
-    ensures sightings { IfOk result (AreSightings lengths.now) }
+        (λ bytes. found.items ≡ found_in ask.now (I.seen images.old).attached bytes)) }
+    ensures sightings { IfOk result (λ found. AreSightings lengths.now found.items) }
     ensures reads { OnlyReads (I.seen images.old) (I.seen images.new)
         (length (I.seen images.old).attached * (ask.now.end - slice_index ask.now.bounds.offsets.items 0)) }
     ensures ends { IfErr result (EndsSurvey (I.seen images.old) (I.seen images.new)) }
@@ -44,7 +44,7 @@ pub fn gather<I: Images>(
     while sweep.advance(images).map_err(|_| SurveyFault::ReadFault)? {
         look_at_block(ask, lengths, &sweep, &mut counted).map_err(|_| SurveyFault::Memory)?;
     }
-    Ok(counted.into_list())
+    Ok(counted.into_vec())
 }
 
 /// Adds the sightings in the blocks of a sweep.

@@ -3,8 +3,10 @@ ghost use Rattle.std.specs.Prelude.{◌≡◌, ◌<◌, ◌^◌, IfSome, IsTrue,
 ghost use Rattle.gpt_marks.specs.Header.{gpt_header, IsUnit};
 ghost use Rattle.xfs5.specs.Places.{is_sound as is_sound_place};
 ghost use Rattle.more_marks.specs.Btrfs.{btrfs_super, is_super_address};
-ghost use Rattle.survey_engine.specs.Landmarks.{front_in, has_inodes, head_in, inner_in, inode_in, is_asked, kind_of, landmark_in, is_own, place_of_inodes, record_or_label_in, super_in, super_of, table_in, IsSound};
+ghost use Rattle.btrfstree.specs.Header.{tree_block};
+ghost use Rattle.survey_engine.specs.Landmarks.{front_in, has_inodes, head_in, inner_in, inode_in, is_asked, kind_of, landmark_in, last_in, is_own, place_of_inodes, record_or_label_in, super_in, super_of, table_in, untold, IsSound};
 
+use btrfstree::{TreeBlock, read_block};
 use ext_marks::{ExtSuper, read_ext};
 use gpt_marks::{GptHeader, own_table, read_header};
 use landmark_rules::Kind;
@@ -28,6 +30,19 @@ pub struct GptTable {
     pub header: GptHeader,
     /// The sectors of a block, 1 or 8.
     pub unit: u64,
+}
+
+/// A tree block of btrfs, with what leaves of the tree of chunks told of where its address lies.
+#[derive(Clone, Copy)]
+pub struct TreeSeen {
+    /// What the tree block says of itself.
+    pub block: TreeBlock,
+    /// The generation of the newest leaf that tells of it: None where none does.
+    pub told: Option<u64>,
+    /// The byte of the file system at which it lies, the first time: None where that is not known.
+    pub first: Option<u64>,
+    /// The byte at which it lies the second time: None where it lies once.
+    pub second: Option<u64>,
 }
 
 /// A landmark sector, with what it says.
@@ -55,11 +70,14 @@ pub enum Landmark {
     Ext(ExtSuper),
     /// An inode of XFS of version 5 whose number begins a stretch of 64 KiB.
     Inode(XfsInode),
+    /// The first sector of a tree block of btrfs that counts.
+    Tree(TreeSeen),
 }
 
 /// The landmark in a sector, on a disk whose blocks have `unit` sectors. A header of a partition table is
 /// nothing else, also where it names a sector of 2^55 or more and so is no landmark. A superblock of btrfs or a
-/// copy of one of ext is what is no landmark by its front, and an inode what is no other landmark.
+/// copy of one of ext is what is no landmark by its front, an inode what is none of these, and a tree block of btrfs
+/// what is no other landmark.
 #[tactic(auto, unfolding(crate::specs::Landmarks::landmark_in, gpt_marks::specs::Header::gpt_header))]
 pub fn read_landmark(sector: &[u8; SECTOR], unit: u64) -> Option<Landmark>
     requires { IsUnit unit }
@@ -72,7 +90,7 @@ pub fn read_landmark(sector: &[u8; SECTOR], unit: u64) -> Option<Landmark>
             Some(landmark) => Some(landmark),
             None => match read_inner(sector) {
                 Some(landmark) => Some(landmark),
-                None => read_mark(sector).map(Landmark::Inode),
+                None => read_last(sector),
             },
         },
     }
@@ -160,6 +178,42 @@ fn read_mark(sector: &[u8; SECTOR]) -> Option<XfsInode>
     }
 }
 
+/// An inode of XFS or a tree block of btrfs.
+#[tactic(auto, unfolding(crate::specs::Landmarks::last_in))]
+fn read_last(sector: &[u8; SECTOR]) -> Option<Landmark>
+    ensures landmark { result ≡ last_in sector.now }
+    ensures sound { IfSome result IsSound }
+{
+    match read_mark(sector) {
+        Some(inode) => Some(Landmark::Inode(inode)),
+        None => find_tree(sector).map(untold),
+    }
+}
+
+/// The tree block of btrfs in a sector. Most sectors need no more than a look at byte 63, the revision of its back
+/// references.
+#[tactic(auto, using(crate::proofs::Landmarks::other_revision))]
+fn find_tree(sector: &[u8; SECTOR]) -> Option<TreeBlock>
+    ensures { result ≡ tree_block sector.now }
+{
+    match sector[63] {
+        0 | 1 => read_block(sector),
+        _ => None,
+    }
+}
+
+/// A tree block of which nothing is told yet.
+fn untold(block: TreeBlock) -> Landmark
+    ensures { result ≡ untold block }
+{
+    Landmark::Tree(TreeSeen {
+        block,
+        told: None,
+        first: None,
+        second: None,
+    })
+}
+
 /// A file record of NTFS or a label of LVM2.
 #[tactic(auto, unfolding(crate::specs::Landmarks::record_or_label_in, ntfs_marks::specs::FileRecord::ntfs_record, more_marks::specs::Lvm::lvm_label))]
 fn read_record_or_label(sector: &[u8; SECTOR]) -> Option<Landmark>
@@ -227,6 +281,7 @@ impl Landmark {
             Landmark::Lvm(_) => Kind::Lvm,
             Landmark::Ext(_) => Kind::Ext,
             Landmark::Inode(_) => Kind::Xfs5,
+            Landmark::Tree(_) => Kind::Btrfstree,
         }
     }
 

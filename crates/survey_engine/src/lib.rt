@@ -1,8 +1,8 @@
 //! The survey of images: it finds landmark sectors, and makes the plan of a search from them.
 //!
 //! [`survey`] sweeps the attached images side by side in sector order. A sector that is a GPT header, an
-//! NTFS boot sector or file record, an XFS superblock, AGF, AGI or inode, a superblock of btrfs, a label of LVM2 or a copy
-//! of a superblock of ext2 to ext4 is a sighting. Of each kind the first 4,096 count. They make the groups of the
+//! NTFS boot sector or file record, an XFS superblock, AGF, AGI or inode, a superblock or tree block of btrfs, a label of
+//! LVM2 or a copy of a superblock of ext2 to ext4 is a sighting. Of each kind the first 4,096 count. They make the groups of the
 //! plan, one for the partition table, one for each file system and one for each label. The entries after a GPT
 //! header say at which volume sectors a file system may begin. The blocks of a partition table have 512 bytes or
 //! 4,096, as is asked.
@@ -10,10 +10,14 @@
 //! The sweep takes its memory once, 128 KiB an image however long the images are, reads a block of each image in one call an
 //! image, and each sector once: `specs/Sweep`.
 //!
+//! A tree block of btrfs has its logical address alone. Where that lies is told by leaves of the tree of chunks, which are
+//! read after the sweep: `specs/Telling`.
+//!
 //! What a sector may be stands in `specs/Landmarks`, which are sightings and count in `specs/Sightings`,
 //! groups and the rules of their marks in `specs/Owners`, the origins in `specs/Origins`, and the plan in
 //! `specs/Surveys`. Each filters one list of all sectors; the code looks at each sector once. That no sector is by its
-//! front of two kinds is the law [`no_sector_is_of_two_kinds`]; a sector of btrfs or ext is what is none of them, and an inode what is nothing else.
+//! front of two kinds is the law [`no_sector_is_of_two_kinds`]; a superblock of btrfs or ext is what is none of them, an inode what
+//! is none of these, and a tree block what is nothing else.
 #![tactic(auto)]
 
 mod ask;
@@ -27,6 +31,7 @@ mod owner;
 mod planning;
 mod sighting;
 mod sweep;
+mod telling;
 
 pub use ask::Ask;
 pub use excluding::no_sector_is_of_two_kinds;

@@ -1,21 +1,22 @@
 //! What marks belong to, and where they may lie.
-ghost use Rattle.std.specs.Prelude.{◌≡◌, ◌+◌, ◌*◌, ◌^◌, ◌<◌, ◌≤◌, IsTrue};
+ghost use Rattle.std.specs.Prelude.{◌≡◌, ◌+◌, ◌*◌, ◌^◌, ◌<◌, ◌≤◌, if◌then◌else◌, Some, None, IsTrue};
 ghost use Rattle.std.specs.Str.{bytes_eq};
 ghost use Rattle.ntfs_marks.specs.Boot.{is_within_limit, record_sector};
 ghost use Rattle.xfs_marks.specs.Superblock.{ag_sectors, is_sound};
-ghost use Rattle.std.specs.Option.{option_map};
+ghost use Rattle.std.specs.Option.{is_some, option_map};
 ghost use Rattle.landmark_rules.specs.declared.marks.Rule.TheVariants.{At};
 ghost use Rattle.xfs5.specs.Places.{inode_sector, is_sound as is_sound_place};
 ghost use Rattle.survey_engine.specs.Landmarks.{IsSound};
-ghost use Rattle.survey_engine.specs.Owners.{group_kind, ag_rule, inodes_owner, is_same_boot, is_same_owner, is_same_super, is_same_volume, owner_for, owner_in, record_rule, rule_in, start_rule, volume_of, IsSoundOwner};
+ghost use Rattle.survey_engine.specs.Owners.{group_kind, ag_rule, inodes_owner, is_same_boot, is_same_owner, is_same_super, is_same_volume, owner_for, owner_in, record_rule, rule_in, start_rule, begins_sector, tree_rule, volume_of, IsSoundOwner};
+ghost use Rattle.survey_engine.specs.declared.owner.Owner.TheVariants.{Trees};
 ghost use Rattle.survey_engine.specs.Sightings.{sighted_at};
 
-use crate::landmark::Landmark;
+use crate::landmark::{Landmark, TreeSeen};
 use crate::sighting::Sighting;
 use ext_marks::ExtSuper;
 use landmark_rules::{GroupKind, Rule};
 use ntfs_marks::{NtfsBoot, NtfsRecord};
-use sector_fields::SECTOR;
+use sector_fields::{DISTANCE_LIMIT, SECTOR};
 use uuid::Uuid;
 use xfs_marks::XfsSuper;
 use xfs5::{XfsInode, XfsInodes};
@@ -53,6 +54,8 @@ pub enum Owner {
     Ext(ExtVolume),
     /// The inodes of the XFS of version 5 of which a superblock says where they lie.
     Xfs5(XfsInodes),
+    /// The tree blocks of the btrfs of this identifier.
+    Trees(Uuid),
 }
 
 impl Owner {
@@ -92,6 +95,7 @@ impl Owner {
                 sector: sighting.sector,
             }),
             Landmark::Ext(copy) => Some(Owner::Ext(volume_of(copy))),
+            Landmark::Tree(tree) => trees_of(tree),
             _ => None,
         }
     }
@@ -108,6 +112,7 @@ impl Owner {
             Owner::Label { .. } => GroupKind::Lvm,
             Owner::Ext(_) => GroupKind::Ext,
             Owner::Xfs5(_) => GroupKind::Xfs5,
+            Owner::Trees(_) => GroupKind::Btrfstree,
         }
     }
 
@@ -129,6 +134,7 @@ impl Owner {
             ) => image == other_image && sector == other_sector,
             (Owner::Ext(a), Owner::Ext(b)) => is_same_volume(a, b),
             (Owner::Xfs5(a), Owner::Xfs5(b)) => is_same_uuid(&a.uuid, &b.uuid),
+            (Owner::Trees(a), Owner::Trees(b)) => is_same_uuid(a, b),
             _ => false,
         }
     }
@@ -168,6 +174,8 @@ impl Owner {
                 { Some(Rule::At(copy.copy_sector)) }
             (Owner::Xfs5(places), Landmark::Inode(inode))
                 if is_same_uuid(&places.uuid, &inode.uuid) => inode_rule(places, inode),
+            (Owner::Trees(identifier), Landmark::Tree(tree))
+                if is_same_uuid(identifier, &tree.block.identifier) => tree_rule(tree),
             _ => None,
         }
     }
@@ -190,7 +198,7 @@ fn is_same_super(a: &XfsSuper, b: &XfsSuper) -> bool
 }
 
 /// Whether two identifiers are one, byte by byte.
-fn is_same_uuid(a: &Uuid, b: &Uuid) -> bool
+pub fn is_same_uuid(a: &Uuid, b: &Uuid) -> bool
     ensures { result ≡ bytes_eq a.now b.now }
 {
     a.as_bytes() == b.as_bytes()
@@ -245,6 +253,40 @@ fn inode_rule(places: &XfsInodes, inode: &XfsInode) -> Option<Rule>
     ensures { result ≡ option_map At (inode_sector places.now inode.now.number) }
 {
     places.inode_sector(inode.number).map(Rule::At)
+}
+
+/// The owner that a tree block names, where it is known where it lies.
+fn trees_of(tree: &TreeSeen) -> Option<Owner>
+    ensures { result ≡ if is_some (tree_rule tree.now) then Some (Trees tree.now.block.identifier) else None }
+{
+    if tree_rule(tree).is_some() {
+        Some(Owner::Trees(tree.block.identifier))
+    } else {
+        None
+    }
+}
+
+/// Where a tree block may lie: at the one place, or at one of the two, at which it is known to lie.
+#[tactic(auto, unfolding(crate::specs::Owners::placed_rule))]
+fn tree_rule(tree: &TreeSeen) -> Option<Rule>
+    ensures { result ≡ tree_rule tree.now }
+{
+    match (tree.first, tree.second) {
+        (Some(a), None) if begins_sector(a) => Some(Rule::At(a / SECTOR as u64)),
+        (Some(a), Some(b)) if begins_sector(a) && begins_sector(b) => Some(Rule::Either(
+            a / SECTOR as u64,
+            b / SECTOR as u64,
+        )),
+        _ => None,
+    }
+}
+
+/// Whether a byte begins a sector below 2^55.
+#[tactic(auto, unfolding(crate::specs::Owners::begins_sector))]
+fn begins_sector(byte: u64) -> bool
+    ensures { result ≡ begins_sector byte }
+{
+    byte % SECTOR as u64 == 0 && (byte / SECTOR as u64) < DISTANCE_LIMIT
 }
 
 /// Where a superblock may lie: at the start of each group.

@@ -9,6 +9,7 @@ use crate::ask::Ask;
 use crate::gathering::gather;
 use crate::grouping::groups;
 use crate::hints::origins;
+use crate::telling::tell;
 use arrayvec::ArrayVec;
 use landmark_rules::MarkTests;
 use outside::Images;
@@ -32,7 +33,8 @@ pub enum SurveyFault {
 /// of marks that the sightings make, and the origins that partition tables hint at.
 ///
 /// Each sector from the smallest offset to the end is read once, and at most one sector of entries for
-/// each header of a partition table that counts and that entries follow.
+/// each header of a partition table that counts and that entries follow, and 32 sectors for each leaf of the tree of
+/// chunks of a btrfs that counts and that its image has whole.
 pub fn survey<I: Images>(alloc: Global, images: &mut I, ask: &Ask) -> Result<Plan, SurveyFault>
     requires { IsSurveyable ask.now (I.seen images.old).attached }
     ensures plan { IfOk result IsPlan }
@@ -44,12 +46,12 @@ pub fn survey<I: Images>(alloc: Global, images: &mut I, ask: &Ask) -> Result<Pla
     ensures stays { OnOk result ((I.seen images.new).faults ≡ (I.seen images.old).faults) }
 {
     let lengths = lengths(images);
-    let found = gather(alloc, images, ask, &lengths)?;
+    let mut found = gather(alloc, images, ask, &lengths)?;
     let asked = ask.tests.origins.as_slice();
-    let origins = origins(images, asked, &lengths, found.as_slice()).map_err(
-        |_| SurveyFault::ReadFault,
-    )?;
-    let groups = groups(alloc, &ask.kinds, found.as_slice()).map_err(|_| SurveyFault::Memory)?;
+    let origins = origins(images, asked, &lengths, &found).map_err(|_| SurveyFault::ReadFault)?;
+    let told = found.as_mut_slice();
+    tell(images, &lengths, told).map_err(|_| SurveyFault::ReadFault)?;
+    let groups = groups(alloc, &ask.kinds, told).map_err(|_| SurveyFault::Memory)?;
     Ok(Plan {
         lengths,
         end: ask.end,

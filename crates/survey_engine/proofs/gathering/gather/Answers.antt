@@ -100,10 +100,10 @@ returns-clause-told g c =
     let more : c.in_ok-map_err.field-0 ≡ ltb 0 (next_count c.loop-counted.sweep) = search rules in
     let none : next_count c.loop-counted.sweep ≤ 0 = grind (arith, nat_tests) in
     let before = g.I.Images.seen c.args.images.now in
-    rw c.into_list.ensures (told_end before.attached c.args.ask.now c.args.lengths.now (next_of c.loop-counted.sweep) c.loop-counted.counted (omega arith) c.requires.lengths c.loop-counted.invariant.told)
+    rw c.into_vec.ensures (told_end before.attached c.args.ask.now c.args.lengths.now (next_of c.loop-counted.sweep) c.loop-counted.counted (omega arith) c.requires.lengths c.loop-counted.invariant.told)
 
 pub returns-clause-sightings : goal.returns-clause-sightings
-returns-clause-sightings g c = rw c.into_list.ensures (record {
+returns-clause-sightings g c = rw c.into_vec.ensures (record {
   each = c.loop-counted.invariant.before.each;
   rising = c.loop-counted.invariant.before.rising;
   few = few_is c.loop-counted.counted c.loop-counted.invariant.few;

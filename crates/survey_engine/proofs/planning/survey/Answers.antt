@@ -1,11 +1,10 @@
 use Rattle.std.proofs.Common.{◌≡◌, ◌^◌, ◌<◌, ◌≤◌, rules}
 use Rattle.std.proofs.lemmas.List.Elements.{All-same}
-use Rattle.mark_kinds.specs.declared.sectors.Kind.TheVariants.{Gpt as GptKind}
 use Rattle.survey_engine.specs.Origins.{AreOrigins}
 use Rattle.survey_engine.specs.Owners.{groups_of}
 use Rattle.survey_engine.specs.Sightings.{AreSightings}
 use Rattle.outside.specs.Seen.{lengths_of}
-use Rattle.survey_engine.proofs.Firsts.{survey_read, sweep_read}
+use Rattle.survey_engine.proofs.Leaves.{no_leaf_read, survey_read, sweep_read}
 use Rattle.survey_engine.proofs.Law.{are_groups}
 use Rattle.survey_engine.proofs.Lengths.{are_lengths, are_short, reach_end}
 use Rattle.survey_engine.proofs.planning.survey.Goals as goal
@@ -14,12 +13,16 @@ pub origins-requires-clause-short : goal.origins-requires-clause-short
 origins-requires-clause-short g c =
     All-same (λ n. n < 2 ^ 55) c.deref-2.result.now (lengths_of (g.I.Images.seen c.args.images.now).attached) (search rules) (are_short (g.I.Images.seen c.args.images.now).attached c.requires.short)
 
+pub tell-requires-clause-short : goal.tell-requires-clause-short
+tell-requires-clause-short g c =
+    All-same (λ n. n < 2 ^ 55) c.deref-4.result.now (lengths_of (g.I.Images.seen c.args.images.now).attached) (search rules) (are_short (g.I.Images.seen c.args.images.now).attached c.requires.short)
+
 pub returns-clause-plan : goal.returns-clause-plan
 returns-clause-plan g c =
     let attached = (g.I.Images.seen c.args.images.now).attached in
     let lengths : c.lengths-lengths.result.items ≡ lengths_of attached = search rules in
-    let made : c.in_ok-groups.groups ≡ groups_of c.args.ask.now.kinds c.in_ok-found.found = search rules in
-    let are : AreSightings c.deref.result.now c.in_ok-found.found = search rules in
+    let made : c.in_ok-groups.groups ≡ groups_of c.args.ask.now.kinds c.tell.new.found = search rules in
+    let are : AreSightings c.deref.result.now c.tell.new.found = search rules in
     let same : c.deref.result.now ≡ c.lengths-lengths.result.items = search rules in
     let origins : AreOrigins c.in_ok-origins.origins.items = search rules in
     record {
@@ -29,26 +32,32 @@ returns-clause-plan g c =
       limits = c.requires.ask_is.limits;
       tests = record { origins = origins.rising; few_origins = origins.few; near_origins = origins.near; misfits = c.requires.ask_is.tests.misfits; least = c.requires.ask_is.tests.least };
       each = λ e. rw (lengths, c.copy_of_bounds.ensures) (c.requires.each e);
-      groups = rw made (rw (← same) (are_groups c.deref.result.now c.args.ask.now.kinds c.in_ok-found.found are));
+      groups = rw made (rw (← same) (are_groups c.deref.result.now c.args.ask.now.kinds c.tell.new.found are));
     }
 
 pub returns-clause-reads : goal.returns-clause-reads
 returns-clause-reads g c =
-    let are : AreSightings c.deref.result.now c.in_ok-found.found = search rules in
-    survey_read (g.I.Images.seen c.args.images.now) (g.I.Images.seen c.gather.new.images) (g.I.Images.seen c.origins.new.images) c.args.ask.now c.lengths-lengths.result.items c.in_ok-found.found
-    (search rules) (search rules) (are.few GptKind) (search rules) (search rules)
+    let are : AreSightings c.deref.result.now c.in_ok-found.found.items = search rules in
+    survey_read (g.I.Images.seen c.args.images.now) (g.I.Images.seen c.gather.new.images) (g.I.Images.seen c.origins.new.images) (g.I.Images.seen c.tell.new.images) c.args.ask.now c.lengths-lengths.result.items c.in_ok-found.found.items
+    (search rules) (search rules) are.few (search rules) (search rules) (search rules)
 
 pub returns-in_err-found-clause-reads : goal.returns-in_err-found-clause-reads
 returns-in_err-found-clause-reads g c = sweep_read (g.I.Images.seen c.args.images.now) (g.I.Images.seen c.gather.new.images) c.args.ask.now (search rules)
 
 pub returns-in_err-origins-clause-reads : goal.returns-in_err-origins-clause-reads
 returns-in_err-origins-clause-reads g c =
-    let are : AreSightings c.deref.result.now c.in_ok-found.found = search rules in
-    survey_read (g.I.Images.seen c.args.images.now) (g.I.Images.seen c.gather.new.images) (g.I.Images.seen c.origins.new.images) c.args.ask.now c.lengths-lengths.result.items c.in_ok-found.found
-    (search rules) (search rules) (are.few GptKind) (search rules) (search rules)
+    let are : AreSightings c.deref.result.now c.in_ok-found.found.items = search rules in
+    survey_read (g.I.Images.seen c.args.images.now) (g.I.Images.seen c.gather.new.images) (g.I.Images.seen c.origins.new.images) (g.I.Images.seen c.origins.new.images) c.args.ask.now c.lengths-lengths.result.items c.in_ok-found.found.items
+    (search rules) (search rules) are.few (search rules) (search rules) (no_leaf_read (g.I.Images.seen c.origins.new.images) c.lengths-lengths.result.items c.in_ok-found.found.items)
+
+pub returns-in_err-map_err-clause-reads : goal.returns-in_err-map_err-clause-reads
+returns-in_err-map_err-clause-reads g c =
+    let are : AreSightings c.deref.result.now c.in_ok-found.found.items = search rules in
+    survey_read (g.I.Images.seen c.args.images.now) (g.I.Images.seen c.gather.new.images) (g.I.Images.seen c.origins.new.images) (g.I.Images.seen c.tell.new.images) c.args.ask.now c.lengths-lengths.result.items c.in_ok-found.found.items
+    (search rules) (search rules) are.few (search rules) (search rules) (search rules)
 
 pub returns-in_err-groups-clause-reads : goal.returns-in_err-groups-clause-reads
 returns-in_err-groups-clause-reads g c =
-    let are : AreSightings c.deref.result.now c.in_ok-found.found = search rules in
-    survey_read (g.I.Images.seen c.args.images.now) (g.I.Images.seen c.gather.new.images) (g.I.Images.seen c.origins.new.images) c.args.ask.now c.lengths-lengths.result.items c.in_ok-found.found
-    (search rules) (search rules) (are.few GptKind) (search rules) (search rules)
+    let are : AreSightings c.deref.result.now c.in_ok-found.found.items = search rules in
+    survey_read (g.I.Images.seen c.args.images.now) (g.I.Images.seen c.gather.new.images) (g.I.Images.seen c.origins.new.images) (g.I.Images.seen c.tell.new.images) c.args.ask.now c.lengths-lengths.result.items c.in_ok-found.found.items
+    (search rules) (search rules) are.few (search rules) (search rules) (search rules)

@@ -1,0 +1,357 @@
+-- What leaves tell, one after the other.
+use Rattle.std.proofs.Common.{◌≡◌, ℕ, zero, suc, ◌+◌, ◌-◌, ◌*◌, ◌<◌, ◌≤◌, List, [], ◌∷◌, ◌++◌, Bool, true, false, cond, length, map, take, drop, get_or, slice_get, slice_set, slice_index, slice_range, fold, refl, sym, ap, ap₂, subst, ◌∙◌, arith, All, IfSome, IsSomeAnd, Option, Some, None}
+use Rattle.std.specs.Prelude.{count_by, nat_le, ◌&&◌, ◌==◌}
+use Rattle.std.specs.List.{cons_option, filter_map, range_with_len}
+use Rattle.std.specs.Option.{option_map_or}
+use Rattle.std.specs.Str.{bytes_eq}
+use Rattle.std.proofs.Math.ListN.{get_or-map}
+use Rattle.std.proofs.lemmas.List.{append-nil, drop_all, length-map, take_all}
+use Rattle.std.proofs.lemmas.List.Edits.{map_over_more}
+use Rattle.std.proofs.lemmas.List.Elements.{All-cons, All-get_or, All-head, All-nil, All-tail}
+use Rattle.std.proofs.lemmas.List.Sums.{fold_more, sum_by-cons, sum_by-le-sum_by, sum_by-take-le, sum_by_more}
+use Rattle.btrfstree.specs.declared.header.TreeBlock.{TreeBlock}
+use Rattle.btrfstree.specs.Whole.{is_whole}
+use Rattle.mark_kinds.specs.Table.{kind_place}
+use Rattle.mark_kinds.specs.declared.sectors.Kind.{Kind}
+use Rattle.mark_kinds.specs.declared.sectors.Kind.TheVariants.{Btrfstree as BtrfstreeKind, Gpt as GptKind}
+use Rattle.outside.specs.Attached.{told_all}
+use Rattle.outside.specs.Seen.{AreTold, AreWithin, Image, OnlyReads, Seen, lengths_of}
+use Rattle.outside.proofs.Reading.{reads_join, reads_none, reads_up}
+use Rattle.survey_engine.specs.declared.ask.Ask.{Ask}
+use Rattle.survey_engine.specs.Origins.{is_followed}
+use Rattle.survey_engine.specs.Surveys.{found_in, leaves_read, survey_reads}
+use Rattle.survey_engine.proofs.Firsts.{entries_of, image_there}
+use Rattle.survey_engine.proofs.Reading.{told_bytes}
+use Rattle.std.proofs.lemmas.Bool.{false≢true}
+use Rattle.std.proofs.lemmas.Bool.Decides.{nat_tests}
+use Rattle.survey_engine.specs.Landmarks.{kind_of, IsSound}
+use Rattle.survey_engine.specs.Sightings.{is_same_kind, sighting_place, AreRising, AreSightings, IsInImages}
+use Rattle.survey_engine.specs.Telling.{bare, bare_landmark, begins_leaf, is_leaf, is_newer, is_other, is_same_number, landmark_with, leaf_of, sighting_with, spot_at, spot_of, told, told_by, with_leaf, with_spot}
+use Rattle.survey_engine.specs.declared.landmark.Landmark.{Landmark}
+use Rattle.survey_engine.specs.declared.landmark.Landmark.TheVariants.{Tree}
+use Rattle.survey_engine.specs.declared.landmark.TreeSeen.{TreeSeen}
+use Rattle.survey_engine.specs.declared.sighting.Sighting.{Sighting}
+use Rattle.survey_engine.specs.declared.telling.Spot.{Spot}
+
+-- ---- the items of a leaf
+
+-- where its items from a number on tell that an address lies
+pub spots_from : List ℕ → ℕ → ℕ → List Spot
+spots_from leaf address i = filter_map (spot_at leaf address) (range_with_len i (155 - i))
+
+spots_more : (leaf : List ℕ) (address i : ℕ) (one : Option Spot) → i < 155 → spot_at leaf address i ≡ one → spots_from leaf address i ≡ cons_option one (spots_from leaf address (i + 1))
+unfolding spots_from
+spots_more leaf address i one below is =
+    let next : 155 - i ≡ suc (155 - (i + 1)) = omega arith in
+    ap (λ (n : ℕ). filter_map (spot_at leaf address) (range_with_len i n)) next
+    ∙ ap (λ (o : Option Spot). cons_option o (filter_map (spot_at leaf address) (range_with_len (i + 1) (155 - (i + 1))))) is
+
+pub spot_start : (leaf : List ℕ) (address : ℕ) → spot_of leaf address ≡ slice_get (spots_from leaf address 0) 0
+unfolding spots_from spot_of
+spot_start leaf address = refl
+
+pub spot_found : (leaf : List ℕ) (address i : ℕ) (spot : Spot) → i < 155 → spot_of leaf address ≡ slice_get (spots_from leaf address i) 0 → spot_at leaf address i ≡ Some spot → spot_of leaf address ≡ Some spot
+spot_found leaf address i spot below so is = so ∙ ap (λ (l : List Spot). slice_get l 0) (spots_more leaf address i (Some spot) below is)
+
+pub spot_passed : (leaf : List ℕ) (address i : ℕ) → i < 155 → spot_of leaf address ≡ slice_get (spots_from leaf address i) 0 → spot_at leaf address i ≡ None → spot_of leaf address ≡ slice_get (spots_from leaf address (i + 1)) 0
+spot_passed leaf address i below so is = so ∙ ap (λ (l : List Spot). slice_get l 0) (spots_more leaf address i None below is)
+
+pub spot_none : (leaf : List ℕ) (address i : ℕ) → 155 ≤ i → spot_of leaf address ≡ slice_get (spots_from leaf address i) 0 → spot_of leaf address ≡ None
+unfolding spots_from
+spot_none leaf address i all so =
+    let none : 155 - i ≡ 0 = omega arith in
+    so ∙ ap (λ (n : ℕ). slice_get (filter_map (spot_at leaf address) (range_with_len i n)) 0) none
+
+-- ---- what one leaf tells of all
+
+-- once it told of the first sightings
+pub heard_to : List ℕ → Landmark → List Sighting → ℕ → List Sighting
+heard_to leaf by found n = map (sighting_with leaf by) (take n found) ++ drop n found
+
+pub heard_none : (leaf : List ℕ) (by : Landmark) (found : List Sighting) → heard_to leaf by found 0 ≡ found
+unfolding heard_to
+heard_none leaf by found = refl
+
+pub heard_more : (leaf : List ℕ) (by : Landmark) (found ys : List Sighting) (i : ℕ) (s : Sighting) → i < length found → ys ≡ heard_to leaf by found i → s ≡ get_or ys i s → slice_set ys i (sighting_with leaf by s) ≡ heard_to leaf by found (i + 1)
+unfolding heard_to
+heard_more leaf by found ys i s below so is = map_over_more (sighting_with leaf by) found ys i s below so is
+
+pub heard_all : (leaf : List ℕ) (by : Landmark) (found : List Sighting) (n : ℕ) → length found ≤ n → heard_to leaf by found n ≡ map (sighting_with leaf by) found
+unfolding heard_to
+heard_all leaf by found n all = ap₂ (λ (a b : List Sighting). map (sighting_with leaf by) a ++ b) (take_all n found all) (drop_all n found all) ∙ append-nil (map (sighting_with leaf by) found)
+
+-- ---- sightings stay what they are but for what is told of them
+
+with_passed : (b : Bool) (one other tree : TreeSeen) → one.block ≡ tree.block → other.block ≡ tree.block → (cond b one other).block ≡ tree.block
+with_passed true one other tree is or = is
+with_passed false one other tree is or = or
+
+spot_keeps : (generation : ℕ) (tree : TreeSeen) (spot : Spot) → (with_spot generation tree spot).block ≡ tree.block
+unfolding with_spot
+spot_keeps generation tree spot =
+    with_passed (is_newer generation tree.told) _ _ tree refl (with_passed (is_same_number tree.told (Some generation) && is_other tree spot) _ tree tree refl refl)
+
+either_keeps : (generation : ℕ) (tree : TreeSeen) (spot : Option Spot) → (option_map_or (with_spot generation tree) spot tree).block ≡ tree.block
+either_keeps generation tree None = refl
+either_keeps generation tree (Some spot) = spot_keeps generation tree spot
+
+leaf_keeps : (leaf : List ℕ) (by : TreeBlock) (tree : TreeSeen) → (with_leaf leaf by tree).block ≡ tree.block
+unfolding with_leaf
+leaf_keeps leaf by tree = with_passed (bytes_eq by.identifier tree.block.identifier) _ tree tree (either_keeps by.generation tree (spot_of leaf tree.block.address)) refl
+
+landmark_keeps : (leaf : List ℕ) (by landmark : Landmark) → bare_landmark (landmark_with leaf by landmark) ≡ bare_landmark landmark
+landmark_keeps leaf (Tree by) (Tree tree) = ap (λ (b : TreeBlock). Tree (record { block = b; told = None; first = None; second = None })) (leaf_keeps leaf by.block tree)
+landmark_keeps leaf by landmark = refl
+
+sighting_keeps : (leaf : List ℕ) (by : Landmark) (s : Sighting) → bare (sighting_with leaf by s) ≡ bare s
+sighting_keeps leaf by s = ap (λ (l : Landmark). record { image = s.image; sector = s.sector; landmark = l }) (landmark_keeps leaf by s.landmark)
+
+pub heard_alike : (leaf : List ℕ) (by : Landmark) (found : List Sighting) → map bare (map (sighting_with leaf by) found) ≡ map bare found
+heard_alike leaf by [] = refl
+heard_alike leaf by (s ∷ found) = ap₂ (λ (t : Sighting) (l : List Sighting). t ∷ l) (sighting_keeps leaf by s) (heard_alike leaf by found)
+
+-- what they tell is that of what they are
+bare_begins : (landmark : Landmark) → begins_leaf (bare_landmark landmark) ≡ begins_leaf landmark
+bare_begins (Tree tree) = refl
+bare_begins landmark = refl
+
+bare_with : (leaf : List ℕ) (by landmark : Landmark) → landmark_with leaf (bare_landmark by) landmark ≡ landmark_with leaf by landmark
+bare_with leaf (Tree by) (Tree tree) = refl
+bare_with leaf (Tree by) landmark = refl
+bare_with leaf by landmark = refl
+
+bare_leaf : (lengths : List ℕ) (s : Sighting) → is_leaf lengths (bare s) ≡ is_leaf lengths s
+unfolding is_leaf
+bare_leaf lengths s = ap (λ (b : Bool). b && nat_le (s.sector + 32) (slice_index lengths s.image)) (bare_begins s.landmark)
+
+pub same_leaf : (lengths : List ℕ) (a b : Sighting) → bare a ≡ bare b → is_leaf lengths a ≡ is_leaf lengths b
+same_leaf lengths a b same = sym (bare_leaf lengths a) ∙ ap (is_leaf lengths) same ∙ bare_leaf lengths b
+
+bare_by : (lengths : List ℕ) (images : List (List ℕ)) (s by : Sighting) → told_by lengths images s (bare by) ≡ told_by lengths images s by
+unfolding told_by
+bare_by lengths images s by =
+    ap₂ (λ (b : Bool) (l : Landmark). cond (b && is_whole (leaf_of images by)) (record { image = s.image; sector = s.sector; landmark = l }) s) (bare_leaf lengths by) (bare_with (leaf_of images by) by.landmark s.landmark)
+
+same_by : (lengths : List ℕ) (images : List (List ℕ)) (s a b : Sighting) → bare a ≡ bare b → told_by lengths images s a ≡ told_by lengths images s b
+same_by lengths images s a b same = sym (bare_by lengths images s a) ∙ ap (told_by lengths images s) same ∙ bare_by lengths images s b
+
+-- ---- and so they are those of a survey
+
+bare_kind : (landmark : Landmark) → kind_of (bare_landmark landmark) ≡ kind_of landmark
+bare_kind (Tree tree) = refl
+bare_kind landmark = refl
+
+to_sound : (landmark : Landmark) → IsSound landmark → IsSound (bare_landmark landmark)
+to_sound (Tree tree) is = tt
+to_sound landmark is = is
+
+of_sound : (landmark : Landmark) → IsSound (bare_landmark landmark) → IsSound landmark
+of_sound (Tree tree) is = tt
+of_sound landmark is = is
+
+to_each : (lengths : List ℕ) (found : List Sighting) → All (IsInImages lengths) found → All (IsInImages lengths) (map bare found)
+to_each lengths [] each = All-nil (IsInImages lengths)
+to_each lengths (s ∷ found) each =
+    let here = All-head (IsInImages lengths) s found each in
+    All-cons (IsInImages lengths) (bare s) (map bare found) (record { image = here.image; sector = here.sector; sound = to_sound s.landmark here.sound }) (to_each lengths found (All-tail (IsInImages lengths) s found each))
+
+of_each : (lengths : List ℕ) (found : List Sighting) → All (IsInImages lengths) (map bare found) → All (IsInImages lengths) found
+of_each lengths [] each = All-nil (IsInImages lengths)
+of_each lengths (s ∷ found) each =
+    let here = All-head (IsInImages lengths) (bare s) (map bare found) each in
+    All-cons (IsInImages lengths) s found (record { image = here.image; sector = here.sector; sound = of_sound s.landmark here.sound }) (of_each lengths found (All-tail (IsInImages lengths) (bare s) (map bare found) each))
+
+to_later : (n : ℕ) (found : List Sighting) → All (λ later. n < sighting_place later) found → All (λ later. n < sighting_place later) (map bare found)
+to_later n [] all = All-nil (λ later. n < sighting_place later)
+to_later n (s ∷ found) all =
+    All-cons (λ later. n < sighting_place later) (bare s) (map bare found) (All-head (λ later. n < sighting_place later) s found all) (to_later n found (All-tail (λ later. n < sighting_place later) s found all))
+
+of_later : (n : ℕ) (found : List Sighting) → All (λ later. n < sighting_place later) (map bare found) → All (λ later. n < sighting_place later) found
+of_later n [] all = All-nil (λ later. n < sighting_place later)
+of_later n (s ∷ found) all =
+    All-cons (λ later. n < sighting_place later) s found (All-head (λ later. n < sighting_place later) (bare s) (map bare found) all) (of_later n found (All-tail (λ later. n < sighting_place later) (bare s) (map bare found) all))
+
+to_rising : (found : List Sighting) → AreRising found → AreRising (map bare found)
+to_rising [] rising = tt
+to_rising (s ∷ found) rising = (to_later (sighting_place s) found rising.0, to_rising found rising.1)
+
+of_rising : (found : List Sighting) → AreRising (map bare found) → AreRising found
+of_rising [] rising = tt
+of_rising (s ∷ found) rising = (of_later (sighting_place s) found rising.0, of_rising found rising.1)
+
+bare_count : (kind : Kind) (found : List Sighting) → count_by (is_same_kind kind) (map bare found) ≡ count_by (is_same_kind kind) found
+bare_count kind [] = refl
+bare_count kind (s ∷ found) =
+    let same : ◌≡◌ {A = ℕ} (cond (is_same_kind kind (bare s)) 1 0) (cond (is_same_kind kind s) 1 0) = ap (λ (k : Kind). cond (kind_place k == kind_place kind) 1 0) (bare_kind s.landmark) in
+    omega (arith, same, sum_by-cons (λ t. cond (is_same_kind kind t) 1 0) (bare s) (map bare found), sum_by-cons (λ t. cond (is_same_kind kind t) 1 0) s found, bare_count kind found)
+
+pub are_alike : (lengths : List ℕ) (found new : List Sighting) → map bare new ≡ map bare found → AreSightings lengths found → AreSightings lengths new
+are_alike lengths found new alike are = record {
+  each = of_each lengths new (rw alike (to_each lengths found are.each));
+  rising = of_rising new (rw alike (to_rising found are.rising));
+  few = λ kind. omega (arith, bare_count kind new, ap (count_by (is_same_kind kind)) alike, bare_count kind found, are.few kind);
+}
+
+-- those at one place
+pub alike_at : (found new : List Sighting) (i : ℕ) (s : Sighting) → map bare new ≡ map bare found → s ≡ get_or new i s → bare s ≡ bare (get_or found i s)
+alike_at found new i s alike is = ap bare is ∙ sym (get_or-map bare new i s) ∙ ap (λ (l : List Sighting). get_or l i (bare s)) alike ∙ get_or-map bare found i s
+
+-- ---- of the leaves so far
+
+pub told_to : List ℕ → List (List ℕ) → List Sighting → ℕ → List Sighting
+told_to lengths images found n = map (λ s. fold (told_by lengths images) s (take n found)) found
+
+told_start : (lengths : List ℕ) (images : List (List ℕ)) (found : List Sighting) → map (λ s. s) found ≡ found
+told_start lengths images [] = refl
+told_start lengths images (s ∷ found) = ap (λ (l : List Sighting). s ∷ l) (told_start lengths images found)
+
+one_more : (lengths : List ℕ) (images : List (List ℕ)) (found : List Sighting) (i : ℕ) (by : Sighting) → i < length found → bare by ≡ bare (get_or found i by) → (some : List Sighting) →
+    map (λ s. told_by lengths images s by) (map (λ s. fold (told_by lengths images) s (take i found)) some) ≡ map (λ s. fold (told_by lengths images) s (take (i + 1) found)) some
+one_more lengths images found i by below same [] = refl
+one_more lengths images found i by below same (s ∷ some) =
+    ap₂ (λ (t : Sighting) (l : List Sighting). t ∷ l)
+    (same_by lengths images (fold (told_by lengths images) s (take i found)) by (get_or found i by) same ∙ sym (fold_more (told_by lengths images) s found i by below))
+    (one_more lengths images found i by below same some)
+
+-- ---- and of what is known of images
+
+pub ToldTo : Option (List (List ℕ)) → List ℕ → List Sighting → ℕ → List Sighting → Type 0
+ToldTo bytes lengths found n new = IfSome bytes (λ images. new ≡ told_to lengths images found n)
+
+pub told_none : (bytes : Option (List (List ℕ))) (lengths : List ℕ) (found : List Sighting) → ToldTo bytes lengths found 0 found
+unfolding ToldTo told_to
+told_none None lengths found = tt
+told_none (Some images) lengths found = sym (told_start lengths images found)
+
+pub told_more : (bytes : Option (List (List ℕ))) (lengths : List ℕ) (found old new : List Sighting) (i : ℕ) (by : Sighting) → i < length found → bare by ≡ bare (get_or found i by) →
+    ToldTo bytes lengths found i old → IfSome bytes (λ images. new ≡ map (λ s. told_by lengths images s by) old) → ToldTo bytes lengths found (i + 1) new
+unfolding ToldTo told_to
+told_more None lengths found old new i by below same was adds = tt
+told_more (Some images) lengths found old new i by below same was adds =
+    adds ∙ ap (map (λ s. told_by lengths images s by)) was ∙ one_more lengths images found i by below same found
+
+pub told_all_of : (bytes : Option (List (List ℕ))) (lengths : List ℕ) (found new : List Sighting) (n : ℕ) → length found ≤ n → ToldTo bytes lengths found n new → IfSome bytes (λ images. new ≡ told lengths images found)
+unfolding ToldTo told_to told
+told_all_of None lengths found new n all is = tt
+told_all_of (Some images) lengths found new n all is = is ∙ ap (λ (l : List Sighting). map (λ s. fold (told_by lengths images) s l) found) (take_all n found all)
+
+-- ---- what is read of them
+
+weight : (b : Bool) → ◌≡◌ {A = ℕ} (cond b 32 0) (32 * cond b 1 0)
+weight true = refl
+weight false = refl
+
+pub one_leaf_read : (a b c : Seen) (lengths : List ℕ) (found : List Sighting) (i : ℕ) (by : Sighting) → i < length found → bare by ≡ bare (get_or found i by) → OnlyReads a b (32 * count_by (is_leaf lengths) (take i found)) → OnlyReads b c (cond (is_leaf lengths by) 32 0) →
+    OnlyReads a c (32 * count_by (is_leaf lengths) (take (i + 1) found))
+one_leaf_read a b c lengths found i by below same ab bc =
+    let one : ◌≡◌ {A = ℕ} (cond (is_leaf lengths by) 32 0) (32 * cond (is_leaf lengths (get_or found i by)) 1 0) = ap (λ (t : Bool). cond t 32 0) (same_leaf lengths by (get_or found i by) same) ∙ weight (is_leaf lengths (get_or found i by)) in
+    reads_up a c (reads_join a b c ab bc) (omega (arith, sum_by_more (λ (t : Sighting). cond (is_leaf lengths t) 1 0) found i by below, one))
+
+pub leaves_some : (a b : Seen) (lengths : List ℕ) (found : List Sighting) (n : ℕ) → OnlyReads a b (32 * count_by (is_leaf lengths) (take n found)) → OnlyReads a b (32 * count_by (is_leaf lengths) found)
+leaves_some a b lengths found n ab = reads_up a b ab (omega (arith, sum_by-take-le (λ (t : Sighting). cond (is_leaf lengths t) 1 0) found n))
+
+-- how many leaves there are
+leaf_one : (a b : Bool) → cond (a && b) 1 0 ≤ 1
+leaf_one true true = omega arith
+leaf_one true false = omega arith
+leaf_one false b = omega arith
+
+leaf_few : (landmark : Landmark) (b : Bool) → cond (begins_leaf landmark && b) 1 0 ≤ cond (kind_place (kind_of landmark) == 10) 1 0
+leaf_few (Tree tree) b = leaf_one tree.block.is_chunk_leaf b
+leaf_few landmark b = omega arith
+
+leaves_are_few : (lengths : List ℕ) (found : List Sighting) → count_by (is_leaf lengths) found ≤ count_by (is_same_kind BtrfstreeKind) found
+unfolding is_leaf
+leaves_are_few lengths found =
+    sum_by-le-sum_by (λ (s : Sighting). cond (is_leaf lengths s) 1 0) (λ (s : Sighting). cond (is_same_kind BtrfstreeKind s) 1 0) found (λ s. leaf_few s.landmark (nat_le (s.sector + 32) (slice_index lengths s.image)))
+
+leaves_of : (bytes : Option (List (List ℕ))) (ask : Ask) (attached : List Image) (lengths : List ℕ) (found : List Sighting) → lengths ≡ lengths_of attached → IfSome bytes (λ images. found ≡ found_in ask attached images) →
+    count_by (is_same_kind BtrfstreeKind) found ≤ 4096 → 32 * count_by (is_leaf lengths) found ≤ leaves_read bytes ask attached
+leaves_of None ask attached lengths found are is few = omega (arith, leaves_are_few lengths found, few)
+leaves_of (Some images) ask attached lengths found are is few =
+    let same : count_by (is_leaf lengths) found ≡ count_by (is_leaf (lengths_of attached)) (found_in ask attached images) =
+    ap (λ (ns : List ℕ). count_by (is_leaf ns) found) are ∙ ap (λ (l : List Sighting). count_by (is_leaf (lengths_of attached)) l) is in
+    omega (arith, same)
+
+-- what was read in all
+pub sweep_read : (a b : Seen) (ask : Ask) → OnlyReads a b (length a.attached * (ask.end - slice_index ask.bounds.offsets.items 0)) → OnlyReads a b (survey_reads ask a.attached)
+unfolding survey_reads
+sweep_read a b ask ab = reads_up a b ab (omega arith)
+
+pub survey_read : (a b c d : Seen) (ask : Ask) (lengths : List ℕ) (found : List Sighting) → lengths ≡ lengths_of a.attached → IfSome (told_all a.attached) (λ bytes. found ≡ found_in ask a.attached bytes) →
+    ((kind : Kind) → count_by (is_same_kind kind) found ≤ 4096) → OnlyReads a b (length a.attached * (ask.end - slice_index ask.bounds.offsets.items 0)) → OnlyReads b c (count_by (is_followed lengths) found) →
+    OnlyReads c d (32 * count_by (is_leaf lengths) found) → OnlyReads a d (survey_reads ask a.attached)
+unfolding survey_reads
+survey_read a b c d ask lengths found are is few ab bc cd =
+    reads_up a d (reads_join a c d (reads_join a b c ab bc) cd)
+    (omega (arith, entries_of (told_all a.attached) ask a.attached lengths found are is (few GptKind), leaves_of (told_all a.attached) ask a.attached lengths found are is (few BtrfstreeKind)))
+
+-- nothing of leaves, yet
+pub no_leaf_read : (a : Seen) (lengths : List ℕ) (found : List Sighting) → OnlyReads a a (32 * count_by (is_leaf lengths) found)
+no_leaf_read a lengths found = reads_up a a (reads_none a) (omega arith)
+
+-- ---- of one of them
+
+pub in_images_at : (lengths : List ℕ) (found : List Sighting) (i : ℕ) (s : Sighting) → AreSightings lengths found → i < length found → s ≡ get_or found i s → IsInImages lengths s
+in_images_at lengths found i s are below is = rw is (All-get_or (IsInImages lengths) found i s below are.each)
+
+pub alike_long : (found new : List Sighting) → map bare new ≡ map bare found → length new ≡ length found
+alike_long found new alike = sym (length-map new bare) ∙ ap length alike ∙ length-map found bare
+
+-- the image has it
+fits : (lengths : List ℕ) (s : Sighting) → is_leaf lengths s ≡ true → s.sector + 32 ≤ slice_index lengths s.image
+unfolding is_leaf
+fits lengths s is = grind (arith, nat_tests)
+
+reaches : (attached : List Image) (i sector : ℕ) → i < length attached → sector + 32 ≤ get_or (lengths_of attached) i 0 → IsSomeAnd (slice_get attached i) (λ a. sector + 32 ≤ a.sectors)
+reaches [] i sector below more = absurd (omega arith)
+reaches (a ∷ attached) zero sector below more = more
+reaches (a ∷ attached) (suc i) sector below more = reaches attached i sector (omega arith) more
+
+pub leaf_within : (attached : List Image) (lengths : List ℕ) (s : Sighting) → lengths ≡ lengths_of attached → IsInImages lengths s → is_leaf lengths s ≡ true → AreWithin attached s.image s.sector 16384
+leaf_within attached lengths s are in_it is = record {
+  whole = refl;
+  some = omega arith;
+  inside = reaches attached s.image s.sector (image_there attached lengths s.image s.sector are in_it.sector) (subst (λ (l : List ℕ). s.sector + 32 ≤ get_or l s.image 0) are (fits lengths s is));
+}
+
+leaf_read : (attached : List Image) (bytes : Option (List (List ℕ))) (s : Sighting) (leaf : List ℕ) → told_all attached ≡ bytes → s.image < length attached → AreTold attached s.image s.sector leaf → length leaf ≡ 16384 → IfSome bytes (λ images. leaf ≡ leaf_of images s)
+leaf_read attached None s leaf e below are long = tt
+leaf_read attached (Some images) s leaf e below are long = told_bytes attached images s.image s.sector leaf e below are ∙ ap (λ (n : ℕ). slice_range (get_or images s.image []) (512 * s.sector) (512 * s.sector + n)) long
+
+pub leaf_told : (attached : List Image) (lengths : List ℕ) (s : Sighting) (leaf : List ℕ) → lengths ≡ lengths_of attached → IsInImages lengths s → AreTold attached s.image s.sector leaf → length leaf ≡ 16384 → IfSome (told_all attached) (λ images. leaf ≡ leaf_of images s)
+leaf_told attached lengths s leaf lengths_are in_it are long = leaf_read attached (told_all attached) s leaf refl (image_there attached lengths s.image s.sector lengths_are in_it.sector) are long
+
+-- where it tells nothing
+silent : (lengths : List ℕ) (images : List (List ℕ)) (by : Sighting) (found : List Sighting) → (is_leaf lengths by && is_whole (leaf_of images by)) ≡ false → found ≡ map (λ s. told_by lengths images s by) found
+unfolding told_by
+silent lengths images by [] fails = refl
+silent lengths images by (s ∷ found) fails = ap₂ (λ (t : Sighting) (l : List Sighting). t ∷ l) (rw fails refl) (silent lengths images by found fails)
+
+neither : (a b : Bool) → a ≡ false → (a && b) ≡ false
+neither false b fails = refl
+neither true b fails = absurd (false≢true (sym fails))
+
+not_other : (a b : Bool) → b ≡ false → (a && b) ≡ false
+not_other false b fails = refl
+not_other true b fails = fails
+
+pub no_leaf : (bytes : Option (List (List ℕ))) (lengths : List ℕ) (by : Sighting) (found : List Sighting) → is_leaf lengths by ≡ false → IfSome bytes (λ images. found ≡ map (λ s. told_by lengths images s by) found)
+no_leaf None lengths by found fails = tt
+no_leaf (Some images) lengths by found fails = silent lengths images by found (neither (is_leaf lengths by) (is_whole (leaf_of images by)) fails)
+
+pub not_whole : (bytes : Option (List (List ℕ))) (lengths leaf : List ℕ) (by : Sighting) (found : List Sighting) → IfSome bytes (λ images. leaf ≡ leaf_of images by) → is_whole leaf ≡ false → IfSome bytes (λ images. found ≡ map (λ s. told_by lengths images s by) found)
+not_whole None lengths leaf by found read fails = tt
+not_whole (Some images) lengths leaf by found read fails = silent lengths images by found (not_other (is_leaf lengths by) (is_whole (leaf_of images by)) (ap is_whole (sym read) ∙ fails))
+
+-- and where it tells
+speaks : (lengths : List ℕ) (images : List (List ℕ)) (by : Sighting) (found : List Sighting) → is_leaf lengths by ≡ true → is_whole (leaf_of images by) ≡ true → map (sighting_with (leaf_of images by) by.landmark) found ≡ map (λ s. told_by lengths images s by) found
+unfolding told_by
+speaks lengths images by [] is whole = refl
+speaks lengths images by (s ∷ found) is whole = ap₂ (λ (t : Sighting) (l : List Sighting). t ∷ l) (rw (is, whole) refl) (speaks lengths images by found is whole)
+
+pub whole_leaf : (bytes : Option (List (List ℕ))) (lengths leaf : List ℕ) (by : Sighting) (found new : List Sighting) → new ≡ map (sighting_with leaf by.landmark) found → is_leaf lengths by ≡ true → IfSome bytes (λ images. leaf ≡ leaf_of images by) → is_whole leaf ≡ true →
+    IfSome bytes (λ images. new ≡ map (λ s. told_by lengths images s by) found)
+whole_leaf None lengths leaf by found new heard is read whole = tt
+whole_leaf (Some images) lengths leaf by found new heard is read whole =
+    heard ∙ ap (λ (l : List ℕ). map (sighting_with l by.landmark) found) read ∙ speaks lengths images by found is (ap is_whole (sym read) ∙ whole)

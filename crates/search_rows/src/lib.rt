@@ -2,7 +2,7 @@
 //!
 //! What each answers was worked out by hand: `products` the sets of a plan by rank, `prefixes` which beginnings of slot
 //! lists may pass, `row_counts` and `many_sets` the rows of sets, `listings` pages, `sampled` what rows that are kept refuse, `surveys` the
-//! plans of images.
+//! plans of images, and `trees` those of tree blocks of btrfs.
 //! The tests stand here, since a library with tests is proved a second time with them. Their plans stand in `plans`,
 //! lists and images in `objects`.
 #![tactic(auto)]
@@ -25,5 +25,7 @@ mod row_counts;
 mod sampled;
 #[cfg(test)]
 mod surveys;
+#[cfg(test)]
+mod trees;
 #[cfg(test)]
 mod xfs_sectors;

@@ -56,7 +56,7 @@ const LARGE_BLOCKS: [u8; 92] = [
 ];
 
 // A mark: its kind, image, sector and rule.
-type Line = (Kind, u8, u64, Rule);
+pub type Line = (Kind, u8, u64, Rule);
 
 fn is_rule(a: &Rule, b: &Rule) -> bool {
     match (a, b) {
@@ -107,7 +107,7 @@ fn one<T: Copy + Default, const N: usize>(value: T) -> ArrayVec<T, N>
 
 // The kinds that are usual, blocks of 512 bytes, one offset, origin 0, no drops.
 #[tactic(auto, using(crate::proofs::TestAsks::bounds_are, crate::proofs::TestAsks::tests_are))]
-fn ask(offset: u64, end: u64) -> Ask
+pub fn ask(offset: u64, end: u64) -> Ask
     requires { offset < 2 ^ 55 }
     ensures limits { IsAsk result }
     ensures end { result.end ≡ end }
@@ -169,7 +169,7 @@ fn are_long(images: &MemImages, count: u32, end: u64) -> bool
     images.length(count).is_none()
 }
 
-fn plan_of<R: Abort + AllocGlobal>(
+pub fn plan_of<R: Abort + AllocGlobal>(
     rt: &R,
     images: &mut MemImages,
     count: u32,
@@ -193,7 +193,7 @@ fn put(image: &mut [u8], at: usize, bytes: &[u8])
 }
 
 // Two images, attached in this order.
-fn two_images<R: AllocGlobal>(rt: &R, first: &[u8], second: &[u8]) -> Result<MemImages, Fail> {
+pub fn two_images<R: AllocGlobal>(rt: &R, first: &[u8], second: &[u8]) -> Result<MemImages, Fail> {
     let mut images = MemImages::new(rt.alloc())?;
     images.add("a", first)?;
     images.add("b", second)?;
@@ -313,10 +313,10 @@ fn a_moved_header_is_a_mark(rt: HostRuntime) -> Result<(), Fail> {
 }
 
 // Fields of a sector: where each stands, and its bytes.
-type Field = (usize, &'static [u8]);
+pub type Field = (usize, &'static [u8]);
 
 // Writes the fields of a sector that begins at `start`.
-fn put_all(image: &mut [u8], start: usize, fields: &[Field]) {
+pub fn put_all(image: &mut [u8], start: usize, fields: &[Field]) {
     for (at, field) in fields {
         let from = start.saturating_add(*at);
         for (place, byte) in field.iter().enumerate() {
@@ -447,7 +447,7 @@ const LABEL: &[Field] = &[(0, b"LABELONE"), (8, &[1]), (24, b"LVM2 001")];
 const NO_LABEL: &[Field] = &[(0, b"LABELONE"), (8, &[1]), (24, b"LVM2 002")];
 
 // Whether group `number` of a plan is of this kind and has just these marks.
-fn is_group(plan: &Plan, number: usize, kind: GroupKind, lines: &[Line]) -> bool {
+pub fn is_group(plan: &Plan, number: usize, kind: GroupKind, lines: &[Line]) -> bool {
     match plan.groups.as_slice().get(number) {
         Some(group) => {
             let marks = group.marks.as_slice();
@@ -462,7 +462,7 @@ fn is_group(plan: &Plan, number: usize, kind: GroupKind, lines: &[Line]) -> bool
 }
 
 // The plan of an image of 400 sectors, zero but for these fields of these sectors.
-fn plan_of_fields<R: Abort + AllocGlobal>(
+pub fn plan_of_fields<R: Abort + AllocGlobal>(
     rt: &R,
     sectors: &[(usize, &'static [Field])],
     kinds: Kinds,

@@ -17,7 +17,10 @@ SECTOR = 512
 FIRST = 2048  # of a partition
 LINUX = bytes.fromhex("af3dc60f838472478e793d69d8477de4")
 EXTENT = 8192
-LARGE = 800  # MiB
+LARGE, MIDDLE = 800, 256  # MiB
+# How many files of 10 MiB fill most of these.
+LARGE_FILES, MIDDLE_FILES = 50, 15
+DELAYED = "parity stays for 16 rows"
 
 
 @dataclasses.dataclass(frozen=True)
@@ -69,11 +72,11 @@ def tree(folder):
             file.write(noise.randbytes(3000 + 700 * k))
 
 
-def large_tree(folder):
-    """A folder with compressed files that fill most of a large volume, always the same."""
+def large_tree(folder, count):
+    """A folder with so many compressed files of 10 MiB, which fill most of a large volume, always the same."""
     os.makedirs(folder, exist_ok=True)
     noise = random.Random(2)
-    for k in range(50):
+    for k in range(count):
         with open(f"{folder}/film{k:02}.gz", "wb") as file:
             file.write(gzip.compress(noise.randbytes(10 << 20), 0, mtime=0))
 
@@ -251,6 +254,9 @@ def make_volume(kind, path, folder):
         make_ext(path, folder, 1024, 40)
     elif kind == "ext4 4K":
         make_ext(path, folder, 4096, 160)
+    elif kind == "ext4 256M":
+        large_tree(path + ".tree", MIDDLE_FILES)
+        make_ext(path, path + ".tree", 1024, MIDDLE)
     elif kind == "xfs":
         make_xfs(path, folder)
     elif kind == "ntfs":
@@ -334,6 +340,13 @@ def inside(path, folder):
     put(path, free_place(path, 34), data)
 
 
+def pattern_of(array):
+    """The pattern of an array by its name; none of RAID 10."""
+    if DELAYED in array.traits:
+        return "la*16"
+    return None if array.level == "near2" else disks.PATTERNS[array.level][0]
+
+
 def data_disks(array):
     """The data chunks of a row."""
     return array.members // 2 if array.level == "near2" else array.members - disks.PARITY[array.level]
@@ -344,7 +357,7 @@ def write_disks(array, volume, names, offsets):
     noise, size, members = random.Random(7), array.chunk * SECTOR, array.members
     data, mirrored = data_disks(array), array.level == "near2"
     rows = -(-os.path.getsize(volume) // (size * data))
-    pattern = None if mirrored else disks.PATTERNS[array.level][0]
+    pattern = pattern_of(array)
     files = [open(name, "wb") for name in names]
     for file, offset in zip(files, offsets):
         file.write(noise.randbytes(offset * SECTOR))
@@ -394,7 +407,7 @@ def large_volume(kind, cache):
     """A volume of a kind that is mostly filled, made once: of six disks of a RAID 6 so much is filled that some of it lies behind every usual offset."""
     plain, folder = f"{cache}/large-{kind}", f"{cache}/large-tree"
     if not os.path.exists(plain):
-        large_tree(folder)
+        large_tree(folder, LARGE_FILES)
         if kind == "ext4":
             make_ext(plain, folder, 4096, LARGE)
         else:
@@ -439,7 +452,7 @@ def make(array, cache, folder, first=FIRST, volume=None):
         os.remove(names[slot])
     order = sorted(kept)
     slots = ["-" if slot in array.lost else str(order.index(names[slot])) for slot in range(array.members)]
-    word = {"0": "0:plain:none", "5": "5:ls:none", "6": "6:ls:after-q", "near2": "near2"}[array.level]
+    word = {"0": "0:{}:none", "5": "5:{}:none", "6": "6:{}:after-q", "near2": "near2"}[array.level].format(pattern_of(array))
     if len(set(offsets)) > 1:
         moved_by = {names[slot]: offsets[slot] for slot in range(array.members)}
         at = "+".join(str(moved_by[name]) for name in order)

@@ -22,7 +22,7 @@ import time
 
 TOP = pathlib.Path(__file__).resolve().parents[2]
 sys.path.insert(0, str(TOP / "bench/making"))
-from try_arrays import Array, alike, make, plain_volume, tree  # noqa: E402
+from try_arrays import DELAYED, Array, alike, make, plain_volume, tree  # noqa: E402
 
 KINDS = ["ext4", "btrfs", "xfs", "ntfs", "lvm2", "gpt", "mbr"]
 MOST_SECONDS = 60
@@ -61,6 +61,9 @@ for k, one in enumerate(TRAITS):
             ARRAYS.append(Array("5", 4, (), needed.pop() if needed else ["xfs", "ntfs", "gpt", "lvm2"][(k + m) % 4], (one, other)))
 EVERY = [Array("6", 5, (1,), "xfs", (trait,)) for trait in ("superblock at the end", "stray on parity", "used earlier", "odd offset")]
 ARRAYS += EVERY
+
+# Parity that stays for several rows, as Smart Array controllers have it; it tells nothing here, and few landmarks lie on the disks that are left.
+ARRAYS.append(Array("5", 5, (1,), "ext4 256M", (DELAYED,), 256))
 
 
 def defaults(order, env):

@@ -109,6 +109,11 @@ class Sets(unittest.TestCase):
         words = [read_word(text) for text in ("6:ls:by-data:8:0:0,1,2,-,-", "6:ls:by-data:8:0:0,1,2,-", "5:ls:none:8:0:0,1,2,-")]
         self.assertEqual([word.text[0] + str(len(word.slots)) for word in sorted(words, key=lambda it: it.simplicity)], ["54", "64", "65"])
 
+    def test_parity_that_moves_on_sooner_comes_first(self) -> None:
+        """Of two sets of one level and as many members, as of one volume that is shorter than so many rows."""
+        words = [read_word(text) for text in ("5:la*16:none:8:0:0,1,2", "5:parity-last:none:8:0:0,1,2", "6:la:by-data:8:0:0,1,-,-")]
+        self.assertEqual([word.pattern for word in sorted(words, key=lambda it: it.simplicity)], ["parity-last", "la*16", "la"])
+
 
 class Plans(unittest.TestCase):
     def test_text_comes_back(self) -> None:

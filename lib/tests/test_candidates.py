@@ -24,6 +24,7 @@ from reraid_try.checks.verdicts import Finding, Score, Verdict
 from reraid_try.checks.volumes import Room
 from reraid_try.checks.wholes import Wholes
 from reraid_try.containers import Container
+from reraid_try.errors import Stopped
 from reraid_try.evidence.images import Image
 from reraid_try.evidence.maps import Map
 from reraid_try.opening import Opened
@@ -109,7 +110,7 @@ def candidate(text: str = SET, verdict: Verdict | None = None, chosen: Sequence[
     return Candidate(word, rank, trial, hunt, listed=None if word.is_mirrored else word, verdict=verdict, **values)  # type: ignore[arg-type]
 
 
-def place(it: Candidate) -> tuple[int, int, tuple[int, str], tuple[int, int, int]]:
+def place(it: Candidate) -> tuple[int, int, tuple[int, str, int], tuple[int, int, int]]:
     """What a candidate is printed by."""
     return it.place
 
@@ -532,21 +533,28 @@ class Tested(InFolder):
         self.assertEqual([len(part) for part in tests.parts(some)], [1, 8])
 
     def test_files_of_many(self) -> None:
-        """Of many sets those alone are looked through for files of which no checker found fault; all of them where none is content."""
-        for clean, looked in ((3, [(3, True)]), (99, [(k, True) for k in range(9)])):
+        """Of many sets those alone are looked through for files to which these may give a sign; the others at the end, the first of them."""
+        for clean, looked, empty in ((3, [(3, True)], False), (99, [], False), (99, [], True)):
             some = [candidate(f"5:ls:none:8:{k}:0,1,2") for k in range(9)]
             tests, asked = self.over(), list[tuple[int, bool]]()
 
-            def read(it: Candidate, files: bool = True, clean: int = clean, asked: list[tuple[int, bool]] = asked) -> Candidate:
+            def read(it: Candidate, files: bool = True, clean: int = clean, empty: bool = empty,
+                     asked: list[tuple[int, bool]] = asked) -> Candidate:
                 asked.append((it.word.offset, files))
-                it.verdict = Verdict([Finding("", "xfs", it.word.offset == clean)], counted=files)
+                it.verdict = Verdict([Finding("", "xfs", None if empty else it.word.offset == clean)], counted=files, empty=empty)
                 return it
             with mock.patch.object(tests, "read", read):
                 self.assertEqual(tests.looked_at(some), some)
                 self.assertEqual((sorted(asked[:9]), sorted(asked[9:])), ([(k, False) for k in range(9)], looked))
                 asked.clear()
+                with mock.patch("reraid_try.checks.tests.MOST_COUNTED", 7):
+                    tests.count_late(some)
+                self.assertEqual(sorted(asked), [(k, True) for k in range(8) if k != clean][:7])
+                asked.clear()
                 tests.looked_at(some[:8])
                 self.assertEqual(sorted(asked), [(k, True) for k in range(8)])
+                tests.count_late(some[:8])
+                self.assertEqual(len(asked), 8)
         self.assertEqual(Verdict([Finding("", "xfs", False)], counted=False).text(), "xfs")
 
     def test_encrypted_ones_are_enough(self) -> None:
@@ -583,6 +591,27 @@ class Tested(InFolder):
             return one
         with mock.patch.object(tests, "read", read):
             self.assertEqual([one.listed and one.listed.text for one in tests.without_damaged([it])], ["6:ls:by-data:8:0:0,1,-,3"])
+
+    def test_files_before_images_are_left_out(self) -> None:
+        """What is compared with a set without an image has its files counted: else it would look worse."""
+        it = candidate("6:ls:by-data:8:0:0,1,2,3", Verdict([Finding("", "xfs", False)], counted=False), unsound=9)
+        tests, asked = self.over(), list[str]()
+
+        def read(one: Candidate, _files: bool = True) -> Candidate:
+            asked.append(one.word.text)
+            one.verdict = Verdict([Finding("", "xfs", False)], Wholes(9, 5))
+            return one
+        with mock.patch.multiple(tests, read=read, left_out=lambda _: [frozenset({1})]):
+            self.assertEqual(tests.without_damaged([it]), [])
+        self.assertEqual(asked[0], it.word.text)
+
+    def test_what_a_checker_said_stays(self) -> None:
+        """Where the run is ended while files are looked for."""
+        verdict = Verdict([Finding("", "xfs", False)], counted=False)
+        it, tests = candidate(verdict=verdict, unsound=0), self.over()
+        with mock.patch.object(tests.room, "volume", side_effect=Stopped), self.assertRaises(Stopped):
+            tests.read(it)
+        self.assertIs(it.verdict, verdict)
 
     def test_told_once(self) -> None:
         tests = self.over()

@@ -167,6 +167,14 @@ class Verdicts(unittest.TestCase):
         for files in (Wholes(64, 61, 11), Wholes(64, 64, 10), Wholes(4, 0, 0)):
             self.assertEqual(self.verdict(self.found(), files=files).score, Score.CHECKED)
 
+    def test_no_sign_where_many_files_are_broken(self) -> None:
+        """Metadata in the first rows may be right in a wrong volume, where the parity of the rows with files lies elsewhere."""
+        broken = self.verdict(self.found(), files=Wholes(8, 0))
+        self.assertEqual((broken.score, broken.doubts), (Score.KNOWN, ["none of 8 files is whole"]))
+        for kind, files in (("xfs", Wholes(7, 0)), ("xfs", Wholes(8, 1, 20)), ("xfs", Wholes(8, 0, long=Wholes(2, 1, 20))), ("ext3", Wholes(9, 0))):
+            self.assertEqual(self.verdict(self.found(kind), files=files).score, Score.CHECKED)
+        self.assertEqual(self.verdict(self.found("btrfs"), files=Wholes(9, 0)).score, Score.WHOLE)
+
     def test_no_sign_where_a_checker_reads_little_and_files_are_broken(self) -> None:
         """As `ntfsfix` is content with wrong orders of the chunks, files have to tell the right one where some are broken."""
         def told(kind: str, joined: int | None, whole: int = 61, longest: int = 30) -> Score:

@@ -103,8 +103,9 @@ class Zeros(Evident):
 class Attempts(unittest.TestCase):
     """In which order the shapes of an aim are tried."""
 
-    def order(self, shape: Shape, groups: bool, *found: Any, late: bool = False, tied: bool = True, ends: str = "", first: int = 0) -> list[str]:
-        """What is asked of a shape, with marks or without, where each listing gives these candidates from a first one on, or runs out of its time,
+    def order(self, shape: Shape | tuple[Shape, ...], groups: bool, *found: Any, late: bool = False, tied: bool = True, ends: str = "",
+              first: int = 0) -> list[str]:
+        """What is asked of shapes, with marks or without, where each listing gives these candidates from a first one on, or runs out of its time,
         and one thing may be enough."""
         asked: list[str] = []
         tested: list[Any] = []
@@ -112,7 +113,7 @@ class Attempts(unittest.TestCase):
 
         def step(it: Step, _hunt: Any) -> bool:
             """A listing with so much loosened."""
-            asked.append(f"list {it.count}")
+            asked.append(f"list {it.count}" if it.only is None else it.only.__name__)
             hunt.cut_short |= {"a plan"} if late else set()
             self.times.append(hunt.program.seconds)
             tested.extend(found if it.count >= first else ())
@@ -126,7 +127,8 @@ class Attempts(unittest.TestCase):
         it.order, it.ends = asked, ends
         hunt = types.SimpleNamespace(plan=types.SimpleNamespace(groups=["a group"] if groups else []), program=types.SimpleNamespace(seconds=0),
                                      cut_short=set(), ask_again=lambda: asked.append("again"))
-        it.attempt(cast(Any, hunt), Aim((0, 1, 2), Span(0, 9), "why", (shape,), tied=tied), 0)
+        shapes = (shape,) if isinstance(shape, Shape) else shape
+        it.attempt(cast(Any, hunt), Aim((0, 1, 2), Span(0, 9), "why", shapes, tied=tied), 0)
         return asked
 
     def test_marks_and_parity(self) -> None:
@@ -166,6 +168,17 @@ class Attempts(unittest.TestCase):
         self.assertEqual(self.order(Shape("5", 6), False, candidate(True, ["LUKS"])), ["zeros", "list 0"])
         for other in (candidate(False, ["LUKS"]), candidate(True, [])):
             self.assertEqual(self.order(Shape("6", 6), False, other), ["list 0", "zeros", "list 1", "list 2"])
+
+    def test_before_another_disk_is_lost(self) -> None:
+        """Where parity tells nothing what NTFS needs, and parity that stays, come before the next shape, unless a set is enough or content."""
+        content: Any = types.SimpleNamespace(score=Score.CHECKED, found=types.SimpleNamespace(encrypted=[]),
+                                             trial=types.SimpleNamespace(shape=types.SimpleNamespace(parity=False)))
+        shapes, then = (Shape("5", 4, 1), Shape("6", 5, 2)), ["is_of_kind", "stays"]
+        self.assertEqual(self.order(shapes, True, tied=False)[:5], ["list 0", *then, "list 0", "zeros"])
+        for place, what in enumerate(then):
+            self.assertEqual(self.order(shapes, True, tied=False, ends=what), ["list 0", *then[:place + 1]])
+        self.assertEqual(self.order(shapes, True, content, tied=False)[:3], ["list 0", "list 0", "list 1"])
+        self.assertEqual(self.order((Shape("5", 3), *shapes), True)[:4], ["list 0", "list 0", *then])
 
     def test_no_parity_or_no_marks(self) -> None:
         """Without marks zeros come first where Q tells nothing; where no parity is left either, all sets are listed too."""
@@ -222,7 +235,7 @@ class ByPlaces(unittest.TestCase):
                                      evidence=types.SimpleNamespace(tried=(0, 64), end=900), asking=types.SimpleNamespace(request=lambda _: BASE))
         search = types.SimpleNamespace(options=Options(("a",)), say_trial=lambda _, trial, __: trial, take=take, tested=tested)
         first: tuple[list[str], list[str], str] = ["5:la:none:128:64:0,1,2"], [], ""
-        staying = ["5:la*16:none:8:64:0,1,2", "5:la*16:none:2048:64:0,1,2"], ["delays 1,16"], "1,16"
+        staying = ["5:la*16:none:8:64:0,1,2", "5:la*16:none:2048:64:0,1,2"], ["delays 16"], "16"
         for content, whole, wanted in ((False, False, [first, staying]), (True, False, [first]), (False, True, [first])):
             asked.clear()
             tested.clear()

@@ -20,7 +20,7 @@ from reraid_try.policy.mirrors import Mirrors, groupings, is_striped, there
 from reraid_try.policy.plans import Asking
 from reraid_try.policy.questions import First, Questions
 from reraid_try.policy.shapes import Shape, Shapes
-from reraid_try.policy.steps import Step
+from reraid_try.policy.steps import Step, delayed, of_kinds
 from reraid_try.policy.trials import Trial
 from reraid_try.calls.formats import Ranked
 from reraid_try.calls.sets import NEAR_2, Copying, read_word
@@ -115,7 +115,7 @@ class OfCures(unittest.TestCase):
         names = [cure.name for cure in cures.in_order(self.plan, self.asked)]
         self.assertEqual(names, ["half the window", "an end before a superblock", "file records of number 0 left out",
                                  "without group 1 (ext, 1 mark)", "without group 0 (xfs, 2 marks)", "without group 2 (ntfs, 3 marks)",
-                                 "group 2 (ntfs, 3 marks) alone", "group 0 (xfs, 2 marks) alone", "8 misfits", "delays 1,16", "badrows 256",
+                                 "group 2 (ntfs, 3 marks) alone", "group 0 (xfs, 2 marks) alone", "8 misfits", "delays 16", "badrows 256",
                                  "more offsets", "more origins", "offsets 0,2048, each image its own"])
 
     def test_what_one_image_alone_shows(self) -> None:
@@ -157,7 +157,7 @@ class OfCures(unittest.TestCase):
         self.assertEqual(cures.bad_rows(7, [2048, 4096]).of(BASE).operands, BASE.having(badrows=7, offsets=2048).operands)
         self.assertEqual(cures.bad_rows(7, [4096]).of(BASE).get("offsets"), "0,2048")
         self.assertEqual(cures.more_offsets([16, 100000]).of(BASE).get("offsets"), "0,16,2048")
-        self.assertEqual((cures.delays().of(BASE).get("delays"), cures.delays().rows), ("1,16", False))
+        self.assertEqual((cures.delays().of(BASE).get("delays"), cures.delays().rows), ("16", False))
         self.assertIn(",63,", cures.more_origins().of(BASE).get("origins"))
         each = cures.offsets_each([0, 2048]).of(BASE)
         self.assertEqual((each.is_each, each.get("window"), cures.offsets_each([0]).slow), (True, "8192", True))
@@ -516,7 +516,7 @@ class Hunts(InFolder):
         hunt, standin = self.hunt(lambda *_: put("next 9 of 9\n"))
         known = Hunt(Options(hunt.program.names), standin, hunt.evidence.images, nobody, asked={"chunks": "64", "window": 500})
         for count in (0, 1):
-            _, request = next(known.ways(Shape("0", 3), count))
+            _, request = next(known.ways(Shape("0", 3), Step((), count)))
             self.assertEqual((request.get("chunks"), request.get("window")), ("64", "500"))
 
     def test_listed_once(self) -> None:
@@ -552,19 +552,34 @@ class Hunts(InFolder):
 
     def test_ways(self) -> None:
         hunt, _ = self.hunt(lambda *_: put("next 9 of 9\n"))
-        self.assertEqual([chosen for chosen, _ in hunt.ways(Shape("0", 3), 0)], [()])
-        names = [chosen[0].name for chosen, _ in hunt.ways(Shape("5", 3), 1)]
+        self.assertEqual([chosen for chosen, _ in hunt.ways(Shape("0", 3), Step((), 0))], [()])
+        names = [chosen[0].name for chosen, _ in hunt.ways(Shape("5", 3), Step((), 1))]
         self.assertIn("an end before a superblock", names)
         allows, _ = self.hunt(lambda *_: put("1 5:la:none:8:0:0,1,2\nnext 2 of 9\n"))
-        names = [chosen[0].name for chosen, _ in allows.ways(Shape("5", 3), 1)]
+        names = [chosen[0].name for chosen, _ in allows.ways(Shape("5", 3), Step((), 1))]
         self.assertNotIn("an end before a superblock", names)
         self.assertIn("8 misfits", names)
-        self.assertIn("an end before a superblock", [chosen[0].name for chosen, _ in allows.ways(Shape("5", 3), 1, every=True)])
+        self.assertIn("an end before a superblock", [chosen[0].name for chosen, _ in allows.ways(Shape("5", 3), Step((), 1, every=True))])
+
+    def test_ways_of_one_family(self) -> None:
+        """Of parity that stays alone: one way where there is parity, at any offset, and none else. Of what NTFS needs: where there is one."""
+        hunt, _ = self.hunt(lambda *_: put("next 9 of 9\n"))
+        none: list[str] = []
+        for shape, wanted in ((Shape("5", 4, 1), ["delays 16"]), (Shape("6", 3), ["delays 16"]), (Shape("0", 3), none)):
+            with mock.patch.object(hunt.asking, "request", wraps=hunt.asking.request) as asked:
+                found = list(hunt.ways(shape, delayed(shape)))
+            self.assertEqual([cure.name for chosen, _ in found for cure in chosen], wanted)
+            self.assertEqual([request.get("delays") for _, request in found], ["16"] * len(wanted))
+            self.assertEqual(asked.call_args_list[0][0], (shape, True))
+        for plan, wanted in ((plan_of(NTFS), ["file records of number 0 left out"]), (hunt.plan, none)):
+            with mock.patch.object(hunt.asking, "evidence", dataclasses.replace(hunt.evidence, plan=plan)):
+                found = list(hunt.ways(Shape("0", 3), of_kinds(Shape("0", 3))))
+            self.assertEqual([cure.name for chosen, _ in found for cure in chosen], wanted)
 
     def test_ways_without_parity(self) -> None:
         """Where parity tells nothing it is not asked which offsets need a cure."""
         hunt, standin = self.hunt(lambda *_: put("next 9 of 9\n"))
-        found = [chosen[0].family for chosen, _ in hunt.ways(Shape("0", 3), 1)]
+        found = [chosen[0].family for chosen, _ in hunt.ways(Shape("0", 3), Step((), 1))]
         self.assertEqual((Family.END in found, standin.count("reraid list")), (True, 0))
 
     def test_listing_is_told(self) -> None:
@@ -594,7 +609,7 @@ class Hunts(InFolder):
         hunt, _ = self.hunt(lambda *_: put("next 9 of 9\n"))
         for count, every, wanted in ((0, False, True), (1, False, False), (1, True, True)):
             with mock.patch.object(hunt.asking, "request", wraps=hunt.asking.request) as asked:
-                next(hunt.ways(Shape("0", 3), count, every))
+                next(hunt.ways(Shape("0", 3), Step((), count, every)))
             self.assertEqual(asked.call_args_list[0][0], (Shape("0", 3), wanted))
 
     def test_zeros_are_asked_of_many_sets(self) -> None:

@@ -66,6 +66,7 @@ class Runs(unittest.TestCase):
             done.append(f"pass {'all' if it.options.first == ALL else it.options.first} {len(it.known)}")
             it.solved, it.tested = solved, [tested(best)]
             it.known.add("a set")
+        it.tests = cast(Any, types.SimpleNamespace(count_late=lambda tested: done.append(f"files of {len(tested)}")))
         with mock.patch.multiple(it, pass_through=passes, may_read_all=lambda: more, without_landmarks=lambda: done.append("bare"),
                                  diagnose=lambda _: done.append("diagnosis"), say_rows=lambda: done.append("rows")):
             it.run()
@@ -73,18 +74,20 @@ class Runs(unittest.TestCase):
         return done
 
     def test_what_follows(self) -> None:
-        """More is read, and landmarks left out, only where nothing is known; a diagnosis stands where nothing has a sign."""
-        self.assertEqual(self.done(Score.NOTHING, more=True), ["pass 9 0", "pass all 0", "bare", "diagnosis", "rows"])
-        self.assertEqual(self.done(Score.NOTHING), ["pass 9 0", "bare", "diagnosis", "rows"])
-        self.assertEqual(self.done(Score.KNOWN, more=True), ["pass 9 0", "diagnosis", "rows"])
+        """More is read, and landmarks left out, only where nothing is known; where nothing has a sign the files that were put off are looked for, and
+        a diagnosis stands."""
+        self.assertEqual(self.done(Score.NOTHING, more=True), ["pass 9 0", "pass all 0", "bare", "files of 1", "diagnosis", "rows"])
+        self.assertEqual(self.done(Score.NOTHING), ["pass 9 0", "bare", "files of 1", "diagnosis", "rows"])
+        self.assertEqual(self.done(Score.KNOWN, more=True), ["pass 9 0", "files of 1", "diagnosis", "rows"])
         self.assertEqual(self.done(Score.CHECKED, more=True), ["pass 9 0", "rows"])
-        self.assertEqual(self.done(Score.NOTHING, solved=True, more=True), ["pass 9 0", "rows"])
+        self.assertEqual(self.done(Score.NOTHING, solved=True, more=True), ["pass 9 0", "files of 1", "rows"])
 
     def test_a_reshape(self) -> None:
         """Where ties change for good is said once more at the end of a run in which nothing has a sign."""
         for best, count in ((Score.KNOWN, 1), (Score.CHECKED, 0)):
             it = search()
             it.tested, it.reshapes = [tested(best)], [Reshape(99, 100, frozenset(range(5)), frozenset(range(4)))]
+            it.tests = cast(Any, types.SimpleNamespace(count_late=lambda _: None))
             with mock.patch.multiple(it, pass_through=lambda: None, diagnose=lambda _: None, say_rows=lambda: None, may_read_all=lambda: False):
                 it.run()
             self.assertEqual(len(said(it)), count)
@@ -154,6 +157,7 @@ class Steps(unittest.TestCase):
 
     damage, parity = "damage 4", ["5.0+0.0 0", "5.0 0", "6.1+5.0 0 quick"]
     late, again = ["5.0+0.0 0", "6.1+5.0 0 quick"], "again"
+    stays = ["5.0 stays", "0.0 stays", "6.1 stays", "5.0 stays", "6.2 stays"]
     loosened = ["5.0+0.0 1", "5.0+0.0 2", "5.0 3", "6.1+5.0 1 quick", "6.1+5.0 2 quick"]
     rest = ["6.2 0", "6.1+5.0+6.2 1"]
 
@@ -177,7 +181,8 @@ class Steps(unittest.TestCase):
 
         def step(what: Step, _hunt: Any = None) -> bool:
             levels = "+".join(f"{shape.levels}.{shape.missing}" for shape in what.shapes)
-            return keep(f"{levels or 'none'} {what.count}" + " quick" * what.quick + " every" * what.every)
+            count = what.only.__name__ if what.only else what.count
+            return keep(f"{levels or 'none'} {count}" + " quick" * what.quick + " every" * (what.every and what.only is None))
         with mock.patch.multiple(it, take_step=step, best=lambda: best(done), before_damage=lambda shapes: keep(f"damage {len(shapes)}"),
                                  diagnose=lambda _: done.append("diagnosis"), near_mirrors=lambda _, missing: keep(f"mirrors {missing}")):
             found = bool(getattr(it, run)())
@@ -187,11 +192,12 @@ class Steps(unittest.TestCase):
     def test_first_trials(self) -> None:
         """What is plain comes first: parity, the rest, and RAID 10 with a disk lost too of an odd number of images; nothing of that where level 10 is
         not asked for. Each takes a part of the time of a trial; parity that needs more has it then, before anything is loosened."""
-        odd = [self.damage, *self.parity, "6.2 0", "mirrors 0", "mirrors 1", self.again, *self.late, *self.loosened, "diagnosis", *self.rest]
-        self.assertEqual((self.order(3, lambda _: Score.NOTHING, "first_trials"), self.short), ((False, odd), 6))
-        even = [self.damage, *self.parity, "6.2 0", "mirrors 0", self.again, *self.late, *self.loosened, "diagnosis", "mirrors 1", *self.rest]
-        self.assertEqual((self.order(4, lambda _: Score.NOTHING, "first_trials"), self.short), ((False, even), 5))
-        known = [self.damage, *self.parity, "6.2 0", self.again, *self.late, *self.loosened, *self.rest]
+        then = [self.again, *self.late, *self.stays, *self.loosened]
+        odd = [self.damage, *self.parity, "6.2 0", "mirrors 0", "mirrors 1", *then, "diagnosis", *self.rest]
+        self.assertEqual((self.order(3, lambda _: Score.NOTHING, "first_trials"), self.short), ((False, odd), 11))
+        even = [self.damage, *self.parity, "6.2 0", "mirrors 0", *then, "diagnosis", "mirrors 1", *self.rest]
+        self.assertEqual((self.order(4, lambda _: Score.NOTHING, "first_trials"), self.short), ((False, even), 10))
+        known = [self.damage, *self.parity, "6.2 0", *then, *self.rest]
         self.assertEqual(self.order(4, lambda _: Score.KNOWN, "first_trials", levels=("5",)), (False, known))
         self.assertEqual(self.order(4, lambda _: Score.NOTHING, "first_trials", (LOST,), levels=("5",))[1][2], "none 0")
 
@@ -216,6 +222,11 @@ class Steps(unittest.TestCase):
             for place, what in enumerate(done):
                 if what not in ("diagnosis", self.again) and what not in done[:place]:
                     self.assertEqual(self.order(images, lambda _: Score.NOTHING, run, ends=what), (True, done[:place + 1]))
+
+    def test_parity_that_stays(self) -> None:
+        """It is asked for until a candidate is content."""
+        done = self.order(4, lambda done: Score.CHECKED if "6.1 stays" in done else Score.NOTHING, "first_trials", levels=("5",))
+        self.assertEqual(done, (True, [self.damage, *self.parity, "6.2 0", self.again, *self.late, *self.stays[:3], "5.0+0.0 1"]))
 
     def test_further_trials(self) -> None:
         """Until something is known."""

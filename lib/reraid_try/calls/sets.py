@@ -136,9 +136,9 @@ class Word:
         return len(self.offsets) > 1
 
     @property
-    def simplicity(self) -> tuple[int, str]:
-        """What sets of one volume are sorted by: the fewest members first, and then the lower level."""
-        return len(self.slots), self.level
+    def simplicity(self) -> tuple[int, str, int]:
+        """What sets of one volume are sorted by: the fewest members first, then the lower level, then parity that moves on sooner."""
+        return len(self.slots), self.level, self.delay
 
     @property
     def images(self) -> tuple[int, ...]:

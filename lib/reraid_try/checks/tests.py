@@ -26,6 +26,8 @@ from .volumes import Room, Source
 FEW, MOST_BEGUN, MOST_CLASSED = 8, 2048, 1024
 # More sets at once are put off where parity tells nothing, and so many are looked at that begin with nothing known.
 MOST_UNTOLD, MOST_UNKNOWN = 1024, 256
+# In so many volumes that have no sign, whatever files are in them, these are looked for at the end.
+MOST_COUNTED = 256
 # How far into a volume a file system may begin to be looked for before the whole is read, in sectors.
 FARTHEST = 131072
 # The writing of a volume may take so many times as long as a trial.
@@ -107,6 +109,7 @@ class Tests:
         rows are sound then."""
         found = []
         for it in damage.doubted(tested, bool(self.maps)):
+            it = it if it.found.counted else self.read(it)
             lesser = [damage.lesser(it, images) for images in self.left_out(it)]
             self.side_by_side(self.read, lesser, "looks at the candidates without damaged images")
             found += [one for one in lesser if one.found.gain > it.found.gain or damage.is_sounder(one, it)]
@@ -133,8 +136,9 @@ class Tests:
         """Looks at the volume of a candidate, for files that are whole too where these are asked for."""
         self.ask(candidate)
         word = candidate.word
-        candidate.verdict = self.looks.known(word, candidate.origins, files)
-        if candidate.verdict:
+        known = self.looks.known(word, candidate.origins, files)
+        if known:
+            candidate.verdict = known
             return candidate
         members = named(word, self.images)
         source = Source(members.word, members.names, candidate.end or members.end, members.maps)
@@ -201,16 +205,18 @@ class Tests:
         return tested
 
     def looked_at(self, classes: list[Candidate]) -> list[Candidate]:
-        """Looks at the volumes of these. Of many the checkers are asked first, and files are looked for where none found fault; elsewhere only if no
-        checker is content, since they are the longer work."""
+        """Looks at the volumes of these. Of many the checkers are asked first, and files are looked for where they may give a sign; elsewhere at the
+        end, since they are the longer work."""
         if len(classes) <= FEW:
             return self.side_by_side(self.read, classes, "looks at the candidates", self.tell)
         self.side_by_side(lambda it: self.read(it, False), classes, "asks the checkers about the candidates")
-        for refuted in (False, True):
-            self.side_by_side(self.read, [it for it in classes if it.found.refuted == refuted], "looks at the candidates", self.tell)
-            if any(it.score >= Score.CHECKED for it in classes):
-                break
+        self.side_by_side(self.read, [it for it in classes if not it.found.settled], "looks at the candidates", self.tell)
         return classes
+
+    def count_late(self, tested: Sequence[Candidate]) -> None:
+        """Looks for files in the volumes where that was put off, as they give no sign: in the first of these, as they are printed."""
+        left = sorted((it for it in tested if it.found.settled and not it.found.counted), key=lambda it: it.place)
+        self.side_by_side(self.read, left[:MOST_COUNTED], "looks for files in the candidates")
 
     def without_doubtful(self, found: list[Candidate]) -> list[Candidate]:
         """The sets of which more speaks for them than against them; the others are kept for the end."""

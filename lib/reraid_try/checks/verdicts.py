@@ -11,6 +11,8 @@ from .wholes import Wholes
 
 # A file system that covers less than this part of its volume says little of it, and one that covers more than this part says much.
 LITTLE, MUCH = 4, 2
+# Of so many files some is whole in the right volume.
+MANY_FILES = 8
 
 
 class Score(enum.IntEnum):
@@ -159,6 +161,11 @@ class Verdict:
         return any(finding.clean is False for finding in self.findings)
 
     @property
+    def settled(self) -> bool:
+        """Whatever files are in it, it has no sign: a checker found fault, or nothing lies in what was found."""
+        return self.refuted or self.empty
+
+    @property
     def encrypted(self) -> list[Finding]:
         """What is encrypted in it."""
         return [finding for finding in self.findings if finding.system.opened]
@@ -177,20 +184,31 @@ class Verdict:
     def within_chunks(self) -> bool:
         """Some files are whole, but none that is longer than a chunk; others are broken. Such files are whole in whatever order the chunks stand.
         Where long files are in pieces anyway that says nothing."""
-        scattered = any(finding.system.scattered for finding in self.inner)
-        return not scattered and 0 < self.files.longest_of_all <= self.chunk and self.files.whole < self.files.found
+        return not self.scattered and 0 < self.files.longest_of_all <= self.chunk and self.files.whole < self.files.found
+
+    @property
+    def all_broken(self) -> bool:
+        """Of many files none is whole. Where long files are in pieces anyway that says nothing."""
+        return not self.scattered and self.files.found >= MANY_FILES and not self.files.longest_of_all
+
+    @property
+    def scattered(self) -> bool:
+        """Long files are in several pieces in what was found."""
+        return any(finding.system.scattered for finding in self.inner)
 
     @property
     def doubts(self) -> list[str]:
         """Why what was found says too little for a sign."""
         said: list[str] = []
-        if self.refuted or self.empty:
+        if self.settled:
             return said
         said += filter(None, (finding.too_long for finding in self.findings))
         if self.inner and LITTLE * self.covers < self.length:
             said.append(f"what was found covers {percent(self.covers, self.length)} of the volume")
         if self.within_chunks and not self.wholly_summed:
             said.append("only files within one chunk are whole, as in any order of the chunks")
+        elif self.all_broken and not self.wholly_summed:
+            said.append(f"none of {self.files.found} files is whole")
         elif self.unjoined:
             said.append("its checker reads little of it, some files are broken, and no whole one is longer than a row of chunks")
         return said
@@ -199,7 +217,7 @@ class Verdict:
     def score(self) -> Score:
         """How much speaks for the volume."""
         broken = not self.clean and self.files.found and not self.files.whole
-        if not self.findings or self.refuted or self.empty or broken:
+        if not self.findings or self.settled or broken:
             return Score.NOTHING
         if self.doubts:
             return Score.KNOWN

@@ -152,8 +152,8 @@ def bad_rows(rows: int, offsets: Collection[int]) -> Cure:
 
 
 def delays() -> Cure:
-    """Parity that stays for several rows besides."""
-    return Cure(f"delays 1,{DELAY}", Family.DELAYS, lambda request: request.having(delays=listed((1, DELAY))))
+    """Parity that stays for several rows, in place of parity that moves on in each, which is asked for without this."""
+    return Cure(f"delays {DELAY}", Family.DELAYS, lambda request: request.having(delays=DELAY))
 
 
 def more_offsets(offsets: Collection[int]) -> Cure:

@@ -25,7 +25,7 @@ from . import cures, mirrors, plain, thousands
 from .cures import Family
 from .hunt import Hunt
 from .plain import Aim, Span
-from .steps import Step
+from .steps import Step, delayed, of_kinds
 from .trials import Trial
 
 if TYPE_CHECKING:
@@ -295,7 +295,7 @@ class Evident:
             return True
         # What the images are tied for is worth the whole time of a trial.
         hunt.program.seconds = self.search.options.seconds if aim.tied and by_q else self.options.seconds
-        if self.take_step(aim, 0, hunt, before):
+        if self.plain_steps(aim, hunt, before):
             return True
         if not silent and not self.is_content(before) and (self.by_places(hunt, aim) or self.is_closed(before)):
             return True
@@ -305,6 +305,17 @@ class Evident:
             if self.take_step(aim, 0, hunt, before):
                 return True
         return not hunt.plan.groups and any(self.search.attempt_bare(hunt, shape) for shape in aim.shapes if not shape.parity)
+
+    def plain_steps(self, aim: Aim, hunt: Hunt, before: int) -> bool:
+        """The trials of the shapes of an aim with nothing loosened. Where parity tells nothing at a shape, and no candidate is content, what one kind
+        of group needs, and parity that stays for several rows, come before the next shape, with another disk lost, of which more sets pass by few
+        landmarks. It says whether nothing more is to be seen."""
+        for shape, following in itertools.zip_longest(aim.shapes, aim.shapes[1:]):
+            more = [] if shape.parity or following is None else [of_kinds(shape), delayed(shape)]
+            for step in (Step((shape,), 0), *more):
+                if (step.count == 0 or not self.is_content(before)) and self.search.take_step(step, hunt):
+                    return True
+        return self.is_closed(before)
 
     def take_step(self, aim: Aim, count: int, hunt: Hunt, before: int) -> bool:
         """The trials of the shapes of an aim with so many things loosened; it says whether nothing more is to be seen."""

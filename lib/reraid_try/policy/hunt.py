@@ -19,6 +19,7 @@ from .cures import Cure, Family, choices, loosened
 from .plans import Asking
 from .questions import Late, Questions
 from .shapes import Shape, Shapes
+from .steps import Step
 from .trials import Trial
 
 
@@ -57,11 +58,13 @@ class Hunt:
         """The first plan."""
         return self.evidence.plan
 
-    def ways(self, shape: Shape, count: int, every: bool = False, quick: bool = False) -> Iterator[tuple[tuple[Cure, ...], Request]]:
-        """The requests for a shape with so many things loosened at once, in order, each with these. Where parity tells something, what
-        changes it is loosened only as far as parity needs it, and at the offsets that need it; all else too, where every one is asked for."""
-        request = self.asking.request(shape, every or count == 0)
-        for chosen in choices(self.asking.cures(shape, every, quick), count):
+    def ways(self, shape: Shape, step: Step) -> Iterator[tuple[tuple[Cure, ...], Request]]:
+        """The requests of a step for a shape, in order, each with what is loosened at once. Where parity tells something, what changes it is loosened
+        only as far as parity needs it, and at the offsets that need it; all else too, where every one is asked for."""
+        every = step.every
+        request = self.asking.request(shape, every or step.count == 0)
+        found = [cure for cure in self.asking.cures(shape, every, step.quick) if step.only is None or step.only(cure)]
+        for chosen in choices(found, step.count):
             asked = loosened(request, chosen)
             if every or not shape.parity:
                 yield chosen, asked

@@ -1,7 +1,8 @@
 """The way from the images to the table: looks, surveys, trials, tests, and where it ends."""
 
+import contextlib
 import dataclasses
-from collections.abc import Callable, Iterable, Sequence
+from collections.abc import Callable, Iterable, Iterator, Sequence
 
 from ..calls.commands import Runner
 from ..calls.formats import Ranked
@@ -31,7 +32,7 @@ from .hunt import Hunt
 from .mirrors import Grouped, Mirrors, groupings, is_striped
 from .plans import FIRST_ROWS
 from .shapes import Shape, Tiers
-from .steps import Step
+from .steps import Step, delayed
 from .trials import Trial
 
 # Images of at most so many times what is read first are read wholly where nothing was found.
@@ -73,6 +74,8 @@ class Search:
             self.pass_through()
         if not self.solved and self.best() < Score.KNOWN:
             self.without_landmarks()
+        if self.best() < Score.CHECKED:
+            self.tests.count_late(self.tested)
         if not self.solved and self.best() < Score.CHECKED:
             self.diagnose(lambda it: it.show(self.was_late))
             for it in self.reshapes:
@@ -160,13 +163,14 @@ class Search:
             self.commands.note(f"# passed over {counted(self.hunt.passed_over, 'trial')}: landmarks alone, or parity alone, allow no set")
 
     def first_trials(self) -> bool:
-        """What is plain; then what the hints say, with up to three things loosened where parity tells something, what parity tells of with up to two
-        that are soon told, and the rest with up to one; what is plain and ran out of its time once more. It says whether the search is at its end."""
+        """What is plain, once more where it ran out of its time, and with parity that stays for several rows; then what the hints say, with up to
+        three things loosened where parity tells something, what parity tells of with up to two that are soon told, and the rest with up to one. It
+        says whether the search is at its end."""
         tiers = self.hunt.shapes.tiers()
         hinted, told = tiers.hinted, tiers.told
         if self.before_damage(hinted + told) or self.plain_trials(tiers):
             return True
-        if self.best() < Score.CHECKED and self.plain_again(tiers):
+        if self.best() < Score.CHECKED and (self.plain_again(tiers) or self.delayed_trials(tiers)):
             return True
         telling = tuple(it for it in hinted if it.parity)
         steps = [Step(hinted, 1), Step(hinted, 2), Step(telling, 3), Step(told, 1, quick=True), Step(told, 2, quick=True)]
@@ -189,11 +193,23 @@ class Search:
         images are the same. Each trial takes no longer than a question. It says whether the search is at its end."""
         exact = tuple(shape for shape in self.hunt.shapes.exact() if shape in tiers.told)
         alike = any(image.like is not None for image in self.images)
-        seconds, self.hunt.program.seconds = self.hunt.program.seconds, self.options.question_seconds
-        try:
+        with self.in_short():
             if alike and self.plain_mirrors() or any(map(self.take_step, [Step(tiers.hinted, 0), Step(exact, 0), Step(tiers.told, 0, quick=True)])):
                 return True
             return self.best() < Score.CHECKED and (self.take_step(Step(tiers.rest, 0)) or not alike and self.plain_mirrors())
+
+    def delayed_trials(self, tiers: Tiers) -> bool:
+        """Parity that stays for several rows, nothing else loosened, in the same order, until a candidate is content; each trial takes no longer than
+        a question. It says whether the search is at its end."""
+        with self.in_short():
+            return any(self.best() < Score.CHECKED and self.take_step(delayed(shape)) for shape in tiers.all)
+
+    @contextlib.contextmanager
+    def in_short(self) -> Iterator[None]:
+        """Meanwhile a trial takes no longer than a question."""
+        seconds, self.hunt.program.seconds = self.hunt.program.seconds, self.options.question_seconds
+        try:
+            yield
         finally:
             self.hunt.program.seconds = seconds
 
@@ -244,7 +260,7 @@ class Search:
         """The trials of a step; it says whether the search is at its end."""
         over = hunt or self.hunt
         return any(self.attempt(over, shape, chosen, request) for shape in step.shapes
-                   for chosen, request in over.ways(shape, step.count, step.every, step.quick))
+                   for chosen, request in over.ways(shape, step))
 
     def attempt_bare(self, hunt: Hunt, shape: Shape) -> bool:
         """The trial with all groups left out."""

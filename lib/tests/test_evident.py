@@ -347,13 +347,13 @@ class Apart(unittest.TestCase):
         return it.copies(cast(Any, hunt), aim, 0), asked
 
     def test_what_is_asked_of_copies(self) -> None:
-        """What copies are told of is asked until a candidate is content; of three images that are the same three copies first."""
+        """What copies are told of is asked until a candidate is content; of three images that are the same, and another one, six in threes first."""
         side = Aim((0, 1, 2), Span(0, 900), "why", copied=True)
         self.assertEqual(self.copies(side, 3), (True, ["near2 3", "near3 3", "near2 4"]))
         done, asked = self.copies(side)
         self.assertEqual((done, asked[-1]), (False, "near4 6"))
         same = Aim((0, 1, 3, 4), Span(0, 900), "why", copied=True)
-        self.assertEqual(self.copies(same, 1)[1], ["near3 4"])
+        self.assertEqual(self.copies(same, 2)[1], ["near3 6", "near3 4"])
         apart = Aim((0, 1, 2), Span(0, 900), "why", copied=True, apart=128)
         self.assertEqual(self.copies(apart, 2)[1], ["offset2,offset3 3", "far2,far3 3"])
 
@@ -578,8 +578,8 @@ class Evidence(unittest.TestCase):
                              ["metadata", "unlike", "perhaps", "tied", "copied", "alike", "untied"])
 
     def test_how_many_are_alike(self) -> None:
-        """As many as most of the images that have their like; two where none has."""
-        cases: list[tuple[dict[int, int], int]] = [({}, 2), ({1: 0, 3: 2, 5: 4, 6: 4}, 2), ({1: 0, 2: 0, 5: 4, 6: 4, 8: 7}, 3)]
+        """As many as most of the images that have their like; one where none has."""
+        cases: list[tuple[dict[int, int], int]] = [({}, 1), ({1: 0, 3: 2, 5: 4, 6: 4}, 2), ({1: 0, 2: 0, 5: 4, 6: 4, 8: 7}, 3)]
         for like, count in cases:
             it, _ = evident([Image("a", number, 300, first=0, like=like.get(number)) for number in range(9)], NoTools({}), Options(("a",)))
             self.assertEqual(it.alike_count(range(9)), count)

@@ -697,6 +697,9 @@ class Hunts(InFolder):
         self.assertEqual(asked, [("near2", 3, 0), ("near3", 3, 0), ("near2", 4, 1), ("near3", 4, 1), ("near4", 4, 1), ("near2", 5, 2),
                                  ("near3", 5, 2), ("near4", 5, 2), ("near3", 6, 3), ("near4", 6, 3)])
         self.assertEqual([it.layouts[0].text for it in mirrors.near(4, 4)][:3], ["near4", "near2", "near3"])
+        # Two of three images are the same: of two copies over three members none would be, of three all.
+        alike = [(it.layouts[0].text, it.members, it.missing) for it in mirrors.near(3, 2)]
+        self.assertEqual((alike[:4], sorted(alike)), ([("near2", 4, 1), ("near3", 6, 3), ("near4", 6, 3), ("near2", 3, 0)], sorted(asked)))
         self.assertEqual([(it.layouts[0].text, it.members) for it in mirrors.near(2)],
                          [("near2", 2), ("near2", 3), ("near3", 3), ("near3", 4), ("near4", 4), ("near3", 5), ("near4", 5)])
 

@@ -9,7 +9,7 @@ from typing import TYPE_CHECKING
 
 from ..calls.formats import Ranked
 from ..calls.program import Listing
-from ..calls.sets import NEAR_2, read_word
+from ..calls.sets import read_word
 from ..calls.surveys import known_kinds
 from ..checks.candidates import Candidate
 from ..checks.verdicts import Score
@@ -203,9 +203,9 @@ class Evident:
         return any(self.search.mirrors(hunt, it) or self.is_content(before) for it in asked)
 
     def alike_count(self, numbers: Iterable[int]) -> int:
-        """How many of these images hold the same wholly, of most of those of which another one does."""
+        """How many of these images hold the same wholly, of most of those of which another one does; 1 where none does."""
         sizes = collections.Counter(collections.Counter(self.same_as(number) for number in numbers).values())
-        return max((size for size in sizes if size > 1), key=lambda size: sizes[size], default=NEAR_2.copies)
+        return max((size for size in sizes if size > 1), key=lambda size: sizes[size], default=1)
 
     def same_as(self, number: int) -> int:
         """The first image that holds the same as one."""

@@ -29,12 +29,18 @@ def bearing(layouts: Iterable[Copying], members: int, missing: int) -> tuple[Cop
     return tuple(it for it in layouts if it.copies <= members < it.copies * (members - missing))
 
 
-def near(count: int, alike: int = 2) -> Iterator[Copied]:
-    """What is asked where some of so many images hold the same in the same rows, the fewest missing first; `alike` is of how many most do."""
-    order = sorted(COPIES, key=lambda copies: copies != alike)
-    for missing in range(MOST_MISSING + 1):
-        for layout in bearing((Copying(NEAR, copies) for copies in order), count + missing, missing):
-            yield Copied((layout,), count + missing, missing)
+def near(count: int, alike: int = 1) -> list[Copied]:
+    """What is asked where some of so many images hold the same in the same rows, the fewest missing first; `alike` is of how many of those that hold
+    the same wholly most do, 1 where none does. Where that many cannot do so, as in pairs of an odd number with none missing, it comes last."""
+    order = sorted(COPIES, key=lambda copies: copies != max(alike, NEAR_2.copies))
+    found = [Copied((layout,), count + missing, missing) for missing in range(MOST_MISSING + 1)
+             for layout in bearing((Copying(NEAR, copies) for copies in order), count + missing, missing)]
+
+    def is_odd(it: Copied) -> bool:
+        """So many images hold the same wholly by no way to lose the others."""
+        together = it.layouts[0].together(it.members)
+        return alike > 1 and not together - it.missing <= alike <= together
+    return sorted(found, key=is_odd)
 
 
 def moved(count: int, distance: int, evidence: Evidence) -> Iterator[Copied]:

@@ -25,7 +25,7 @@ from reraid_try.evidence.tables import Partition, Table
 from reraid_try.evidence.unlike import Unlike
 from reraid_try.options import Options
 from reraid_try.policy import evident as evident_module
-from reraid_try.policy.evident import Evident, Part
+from reraid_try.policy.evident import Evident, Later, Part
 from reraid_try.policy.plain import Aim, Span
 from reraid_try.policy.shapes import Shape
 from reraid_try.policy.steps import Step
@@ -64,10 +64,16 @@ class Without(Evident):
         """Those that are stated."""
         return list(self.order)
 
-    def seek(self, aim: Aim) -> bool:
+    def seek(self, aim: Aim, later: list[Later]) -> bool:
         """The trial of an aim says enough where that is stated."""
         self.tried.append(aim)
+        later += [Later(aim, cast(Any, None))] * bool(aim.moved)
         return self.order.index(aim) in self.good
+
+    def loosen(self, it: Later) -> bool:
+        """What is loosened of an aim says enough where that is stated, behind all aims."""
+        self.tried.append(it.aim)
+        return len(self.order) + self.order.index(it.aim) in self.good
 
 
 class Order(unittest.TestCase):
@@ -86,6 +92,13 @@ class Order(unittest.TestCase):
         self.assertEqual(self.tried(frozenset({0}), first, again, other), (True, [0, 2]))
         self.assertEqual(self.tried(frozenset(), first, again, other), (False, [0, 1, 2]))
         self.assertEqual(self.tried(frozenset({1}), first, again, other), (True, [0, 1, 2]))
+
+    def test_where_data_begin(self) -> None:
+        """Of aims that differ in that alone all are tried before anything is loosened, and then the next ones."""
+        one, two, other = (Aim((0, 1, 2), Span(0, 9), "why", moved=moved) for moved in ((0, 8), (8, 16), ()))
+        self.assertEqual(self.tried(frozenset(), one, two, other), (False, [0, 1, 0, 1, 2]))
+        self.assertEqual(self.tried(frozenset({1}), one, two, other), (True, [0, 1]))
+        self.assertEqual(self.tried(frozenset({3}), one, two, other), (True, [0, 1, 0]))
 
 
 class Zeros(Evident):
@@ -128,7 +141,9 @@ class Attempts(unittest.TestCase):
         hunt = types.SimpleNamespace(plan=types.SimpleNamespace(groups=["a group"] if groups else []), program=types.SimpleNamespace(seconds=0),
                                      cut_short=set(), ask_again=lambda: asked.append("again"))
         shapes = (shape,) if isinstance(shape, Shape) else shape
-        it.attempt(cast(Any, hunt), Aim((0, 1, 2), Span(0, 9), "why", shapes, tied=tied), 0)
+        aim = Aim((0, 1, 2), Span(0, 9), "why", shapes, tied=tied)
+        if not it.plainly(cast(Any, hunt), aim, 0):
+            it.loosened(cast(Any, hunt), aim, 0)
         return asked
 
     def test_marks_and_parity(self) -> None:
@@ -470,15 +485,23 @@ class Sought(unittest.TestCase):
             done.append(f"copies {before}")
             return ends
 
-        def attempt(_hunt: Any, _aim: Aim, before: int) -> None:
-            done.append(f"attempt {before} {it.search.why}")
+        def plainly(_hunt: Any, _aim: Aim, before: int) -> bool:
+            done.append(f"plain {before} {it.search.why}")
+            return ends
+
+        def loosened(_hunt: Any, _aim: Aim, before: int) -> None:
+            done.append(f"loosened {before} {it.search.why}")
             trial = types.SimpleNamespace(shape=types.SimpleNamespace(parity=True))
             it.search.tested.extend(cast(Any, types.SimpleNamespace(score=score, trial=trial, found=types.SimpleNamespace(encrypted=[])))
                                     for score in found)
         setattr(it, "copies", copies)
-        setattr(it, "attempt", attempt)
+        setattr(it, "plainly", plainly)
+        setattr(it, "loosened", loosened)
         with mock.patch("reraid_try.policy.evident.Hunt") as hunt:
-            told = it.seek(aim)
+            later: list[Later] = []
+            told = it.seek(aim, later)
+            self.assertEqual([one.aim for one in later], [aim] * bool(aim.moved and not ends))
+            told = any(it.loosen(one) for one in later) or told
         self.assertEqual((report.lines, it.search.why), ([f"looks for this first: {aim.why}"], ""))
         return told, done, hunt.call_args
 
@@ -486,12 +509,14 @@ class Sought(unittest.TestCase):
         """Copies first where they are asked for, and then the shapes, unless that was enough; candidates of before say nothing."""
         aim = Aim((2, 0), Span(100, 300, True), "why", asked=(("chunks", "8"),), tied=True)
         told, done, begun = self.seek(aim, Score.CHECKED)
-        self.assertEqual((told, done), (True, ["evidence", "attempt 1 why"]))
+        self.assertEqual((told, done), (True, ["evidence", "plain 1 why", "loosened 1 why"]))
         self.assertEqual(([it.number for it in begun[0][2]], begun[0][0].seconds), ([2, 0], 10))
         self.assertEqual(begun[1], {"start": 100, "asked": {"chunks": "8"}, "tied": True})
         self.assertEqual(self.seek(aim, Score.KNOWN)[0], False)
         copied = Aim((2, 0), Span(0, 900), "why", copied=True)
-        self.assertEqual(self.seek(copied)[:2], (False, ["evidence", "copies 1", "attempt 1 why"]))
+        self.assertEqual(self.seek(copied)[:2], (False, ["evidence", "copies 1", "plain 1 why", "loosened 1 why"]))
+        self.assertEqual(self.seek(dataclasses.replace(aim, moved=(8, 0)), Score.CHECKED)[:2], (True, ["evidence", "plain 1 why", "loosened 1 why"]))
+        self.assertEqual(self.seek(aim, ends=True)[:2], (False, ["evidence", "plain 1 why"]))
         self.assertEqual(self.seek(copied, ends=True)[:2], (False, ["evidence", "copies 1"]))
 
     def test_asked_by_one(self) -> None:

@@ -36,6 +36,14 @@ MOST_LOOSENED = 2
 
 
 @dataclasses.dataclass(frozen=True)
+class Later:
+    """An aim that was tried with nothing loosened, and its hunt."""
+
+    aim: Aim
+    hunt: Hunt
+
+
+@dataclasses.dataclass(frozen=True)
 class Part:
     """A part of some disks, by their numbers, that is searched for itself."""
 
@@ -89,11 +97,17 @@ class Evident:
         return [gathered.within(image, span.first, span.end) for image in images] if span.partition else images
 
     def of_part(self, part: Part) -> bool:
-        """The trials of a part; what comes later of images of which a candidate says enough is left. It says whether there is one."""
+        """The trials of a part; what comes later of images of which a candidate says enough is left. Of aims that are alike but for where the data
+        begin all are tried before anything is loosened. It says whether there is such a candidate."""
         solved: set[int] = set()
-        for aim in self.aims(part):
-            if solved.isdisjoint(aim.images) and self.seek(aim):
-                solved |= set(aim.images)
+        for _, alike in itertools.groupby(self.aims(part), key=lambda aim: bool(aim.moved)):
+            later: list[Later] = []
+            for aim in alike:
+                if solved.isdisjoint(aim.images) and self.seek(aim, later):
+                    solved |= set(aim.images)
+            for it in later:
+                if solved.isdisjoint(it.aim.images) and self.loosen(it):
+                    solved |= set(it.aim.images)
         return bool(solved)
 
     def images(self) -> list[Image]:
@@ -181,8 +195,9 @@ class Evident:
         self.say("metadata", (metadata.starts_line(f"image {number}", starts) for number, starts in named.items()))
         return unlike.look(asked, images, shown, end, named)
 
-    def seek(self, aim: Aim) -> bool:
-        """The trials of an aim; it says whether a candidate says enough."""
+    def seek(self, aim: Aim, later: list[Later]) -> bool:
+        """The trials of an aim; where it is one of several that are alike but for where the data begin, those with something loosened are left for
+        later. It says whether a candidate says enough."""
         search = self.search
         search.report.say("reason", f"looks for this first: {aim.why}", images=list(aim.images), first=aim.span.first, end=aim.span.end, why=aim.why)
         before, search.why = len(search.tested), aim.why
@@ -191,9 +206,19 @@ class Evident:
         hunt = Hunt(self.options, search.commands, images, search.say_late, start=aim.span.first, asked=dict(aim.asked), tied=aim.tied)
         hunt.ask_places = functools.partial(self.places_of, aim)
         search.say_evidence(hunt)
-        if not self.by_thousands(hunt, aim, before) and not (aim.copied and self.copies(hunt, aim, before)):
-            self.attempt(hunt, aim, before)
+        if not self.by_thousands(hunt, aim, before) and not (aim.copied and self.copies(hunt, aim, before)) and not self.plainly(hunt, aim, before):
+            if aim.moved:
+                later.append(Later(aim, hunt))
+            else:
+                self.loosened(hunt, aim, before)
         search.why = ""
+        return any(map(enough, self.since(before)))
+
+    def loosen(self, it: Later) -> bool:
+        """The trials of an aim with something loosened, which were left for later; it says whether a candidate says enough."""
+        before, self.search.why = len(self.search.tested), it.aim.why
+        self.loosened(it.hunt, it.aim, before)
+        self.search.why = ""
         return any(map(enough, self.since(before)))
 
     def copies(self, hunt: Hunt, aim: Aim, before: int) -> bool:
@@ -275,11 +300,9 @@ class Evident:
         rows = {value - base for value in values if base <= value < hunt.evidence.end}
         return sorted(row for row in rows if aim.begin is None or row <= aim.begin)
 
-    def attempt(self, hunt: Hunt, aim: Aim, before: int) -> None:
-        """The trials of the shapes of an aim, with ever more loosened, until a candidate is whole or encrypted, or content where something is
-        loosened. `before` is how many candidates were tested before them."""
-        if self.plainly(hunt, aim, before):
-            return
+    def loosened(self, hunt: Hunt, aim: Aim, before: int) -> None:
+        """The trials of the shapes of an aim with ever more loosened, until a candidate is whole, encrypted or content. `before` is how many
+        candidates were tested before those of the aim."""
         hunt.program.seconds = self.options.seconds
         for count in range(1, MOST_LOOSENED + 1):
             if self.take_step(aim, count, hunt, before) or self.is_content(before):

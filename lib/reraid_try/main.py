@@ -132,6 +132,7 @@ def searched(search: Search, report: Report, casefile: Casefile) -> int:
     except Stopped:
         resuming.end(search.memory, report, ended=True)
         table.show(report, [it for it in search.tested if it.verdict], search.images)
+        search.say_reshapes()
         said = "interrupted" if search.best() else NONE_GOOD if search.tested else NOT_TESTED
         report.say("interrupted", said, interrupted=True)
         casefile.end(search, INTERRUPTED, ended=True)

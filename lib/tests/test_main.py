@@ -44,6 +44,9 @@ class Fake:
         """What happens in the run."""
         type(self).happens()
 
+    def say_reshapes(self) -> None:
+        """Nothing was seen of a reshape."""
+
     def best(self) -> Score:
         """How much speaks for the best candidate."""
         return self.found
@@ -183,6 +186,7 @@ class Ends(Runs):
             self.assertEqual([it["event"] for it in events].count("candidate"), printed)
             self.assertEqual((events[-1], report.record.last("interrupted")["text"]), ({"event": "interrupted", "interrupted": True}, said))
             casefile.end.assert_called_once_with(search, 130, ended=True)
+            search.say_reshapes.assert_called_once_with()
         search.memory = mock.Mock(runs=[])
         search.memory.name = "kept"
         main.searched(search, report, casefile)

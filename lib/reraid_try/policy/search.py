@@ -78,9 +78,13 @@ class Search:
             self.tests.count_late(self.tested)
         if not self.solved and self.best() < Score.CHECKED:
             self.diagnose(lambda it: it.show(self.was_late))
-            for it in self.reshapes:
-                self.report.say("reshape", it.short(), last=it.last, first=it.sector, before=sorted(it.before), after=sorted(it.after))
+            self.say_reshapes()
         self.say_rows()
+
+    def say_reshapes(self) -> None:
+        """Says once more where ties change for good, where nothing has a sign."""
+        for it in self.reshapes if self.best() < Score.CHECKED else ():
+            self.report.say("reshape", it.short(), last=it.last, first=it.sector, before=sorted(it.before), after=sorted(it.after))
 
     def say_rows(self) -> None:
         """Asks of the candidates that are said in words in which rows parity holds, and which images in no slot are but old or damaged."""

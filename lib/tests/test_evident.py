@@ -369,6 +369,9 @@ class Apart(unittest.TestCase):
         self.assertEqual((done, asked[-1]), (False, "near4 6"))
         same = Aim((0, 1, 3, 4), Span(0, 900), "why", copied=True)
         self.assertEqual(self.copies(same, 2)[1], ["near3 6", "near3 4"])
+        few = dataclasses.replace(side, missing=(0, 1))
+        self.assertEqual(self.copies(few)[1], ["near2 3", "near3 3", "near2 4", "near3 4", "near4 4"])
+        self.assertEqual(self.copies(dataclasses.replace(side, missing=(2, 3)))[1][0], "near2 5")
         apart = Aim((0, 1, 2), Span(0, 900), "why", copied=True, apart=128)
         self.assertEqual(self.copies(apart, 2)[1], ["offset2,offset3 3", "far2,far3 3"])
 
@@ -590,17 +593,18 @@ class Evidence(unittest.TestCase):
         self.assertEqual(len(said), 2)
 
     def test_in_which_order(self) -> None:
-        """Metadata; data that begin at unlike sectors; two images that may be copies; families; copies; whole images that are the same; what nothing
-        ties."""
+        """Metadata; data that begin at unlike sectors; two images that may be copies, few missing; families; such images, more missing; copies; whole
+        images that are the same; what nothing ties."""
         it, _ = evident([Image(name, number, 300, first=0) for number, name in enumerate("abc")], Standin({}, Answer(None)), Options(("a",)))
 
         def aims(why: str) -> Any:
-            return lambda *_: [Aim((0, 1, 2), Span(0, 300), why, (Shape("0", 3),))]
+            count = 2 if why == "perhaps" else 1
+            return lambda *_: [Aim((0, 1, 2), Span(0, 300), why, (Shape("0", 3),))] * count
         with mock.patch.multiple(it, unlike=aims("unlike"), alike=aims("alike"), by_metadata=aims("metadata")), \
                 mock.patch.multiple("reraid_try.policy.evident.plain", perhaps_copied=aims("perhaps"), tied=aims("tied"), copied=aims("copied"),
                                     untied=aims("untied")):
             self.assertEqual([aim.why for aim in it.aims(Part((0, 1, 2), Span(0, 300)))],
-                             ["metadata", "unlike", "perhaps", "tied", "copied", "alike", "untied"])
+                             ["metadata", "unlike", "perhaps", "tied", "perhaps", "copied", "alike", "untied"])
 
     def test_how_many_are_alike(self) -> None:
         """As many as most of the images that have their like; one where none has."""

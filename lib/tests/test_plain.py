@@ -1,5 +1,6 @@
 """What is tried first, by what is known of images."""
 
+import dataclasses
 import unittest
 
 from reraid_try.evidence.families import Family, Old
@@ -77,7 +78,8 @@ class Aims(unittest.TestCase):
     def test_two_images_that_are_the_same_in_some_rows(self) -> None:
         """Copies of a RAID 10, as is tried first, or what level 5 has of three disks of which one is lost."""
         told = Told((Known(Family((0, 2), 500, 8, 900, "5", 0)),), (1,), True)
-        aim, = plain.perhaps_copied(told, range(3), SPAN, ALL)
+        aim, later = plain.perhaps_copied(told, range(3), SPAN, ALL)
+        self.assertEqual((aim.missing, later), ((0, 1), dataclasses.replace(aim, missing=(2, 3))))
         self.assertEqual((aim.images, aim.copied, aim.shapes), ((0, 1, 2), True, ()))
         self.assertEqual(aim.why, "images 0, 2 hold the same in 500 rows of those that were looked at: copies, or level 5 whose third disk is lost "
                          "and zeros there")

@@ -138,7 +138,7 @@ class Evident:
         self.search.reshapes += [it.family.reshape for it in found.known if it.family.reshape and it.family.reshape not in self.search.reshapes]
         ways = plain.perhaps_copied, plain.tied, plain.copied, plain.untied
         perhaps, tied, copied, untied = (of(found, part.images, part.span, self.options) for of in ways)
-        others = [*self.unlike(asked, found, part), *perhaps, *tied, *copied, *self.alike(part), *untied]
+        others = [*self.unlike(asked, found, part), *perhaps[:1], *tied, *perhaps[1:], *copied, *self.alike(part), *untied]
         return [*self.by_metadata(part), *plain.with_thousands(others, untied)]
 
     def alike(self, part: Part) -> list[Aim]:
@@ -225,7 +225,7 @@ class Evident:
         """RAID 10 by its copies, with as few members missing as may be; it says whether the search is at its end, or a candidate is content."""
         count = len(aim.images)
         asked = mirrors.moved(count, aim.apart, hunt.evidence) if aim.apart else mirrors.near(count, self.alike_count(aim.images))
-        return any(self.search.mirrors(hunt, it) or self.is_content(before) for it in asked)
+        return any(self.search.mirrors(hunt, it) or self.is_content(before) for it in asked if it.missing in aim.missing)
 
     def alike_count(self, numbers: Iterable[int]) -> int:
         """How many of these images hold the same wholly, of most of those of which another one does; 1 where none does."""

@@ -12,7 +12,12 @@ from ..evidence.unlike import Unlike
 from ..options import Options
 from ..units import listed
 from .cures import EACH_WINDOW
+from .mirrors import MOST_MISSING
 from .shapes import Shape
+
+
+# So many members are missing in what may be RAID 10 before what parity ties is tried, and so many in what may be one after it.
+FEW_MISSING, MORE_MISSING = (0, 1), tuple(range(2, MOST_MISSING + 1))
 
 
 @dataclasses.dataclass(frozen=True)
@@ -29,7 +34,8 @@ class Aim:
     """Images, by their numbers, that are searched as an array, in a part of each; the shapes that are tried, in order, and why. `asked` are operands
     that are asked for in each trial, as far as they are known; `copied` says that RAID 10 is tried before them, `tied` that parity ties
     them; `begin` is a row of the array, so that its data do not begin later, None where none is known; `moved` has the offset of each image, where
-    these are known and not the same; `apart` says how far apart the copies lie, where they do not lie side by side; `by_thousands` are the shapes at
+    these are known and not the same; `apart` says how far apart the copies lie, where they do not lie side by side; `missing` are the numbers of
+    members that may be missing where copies are asked for; `by_thousands` are the shapes at
     which landmarks by the thousand are asked where they fit, before all else."""
 
     images: tuple[int, ...]
@@ -42,6 +48,7 @@ class Aim:
     begin: int | None = None
     moved: tuple[int, ...] = ()
     apart: int | None = None
+    missing: tuple[int, ...] = tuple(range(MOST_MISSING + 1))
     by_thousands: tuple[Shape, ...] = ()
 
     @property
@@ -128,8 +135,10 @@ def copied(told: Told, numbers: Sequence[int], span: Span, options: Options) -> 
 
 
 def perhaps_copied(told: Told, numbers: Sequence[int], span: Span, options: Options) -> list[Aim]:
-    """What is tried before anything else where two images hold the same in fewer rows: RAID 10 of all, whose copies are soon looked for."""
-    return copied_by((it for it in told.known if it.family.may_be_copies), numbers, span, options)
+    """What is tried where two images hold the same in fewer rows: RAID 10 of all, with few missing before anything else, since such copies are soon
+    looked for, and with more."""
+    found = copied_by((it for it in told.known if it.family.may_be_copies), numbers, span, options)
+    return [dataclasses.replace(aim, missing=missing) for aim in found for missing in (FEW_MISSING, MORE_MISSING)]
 
 
 def copied_by(known: Iterable[Known], numbers: Sequence[int], span: Span, options: Options) -> list[Aim]:

@@ -9,6 +9,7 @@ use Rattle.search_plan.specs.declared.plan.Plan.{Plan}
 use Rattle.survey_engine.specs.Origins.{origins_of}
 use Rattle.survey_engine.specs.Owners.{groups_of}
 use Rattle.survey_engine.specs.Surveys.{found_in, survey_reads as reads_of}
+use Rattle.survey_engine.specs.Telling.{told as told_sightings}
 use Rattle.survey_engine.specs.declared.ask.Ask.{Ask}
 use Rattle.plan_text.specs.PlanText.{plan_text}
 use Rattle.command_words.specs.declared.command.SurveyWords.{SurveyWords}
@@ -45,7 +46,7 @@ survey_plan ask attached images = record {
     misfits = ask.tests.misfits;
     least = ask.tests.least;
   };
-  groups = groups_of ask.kinds (found_in ask attached images);
+  groups = groups_of ask.kinds (told_sightings (lengths_of attached) images (found_in ask attached images));
   each = ask.each;
 }
 

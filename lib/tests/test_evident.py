@@ -192,7 +192,10 @@ class Attempts(unittest.TestCase):
         self.assertEqual(self.order(shapes, True, tied=False)[:5], ["list 0", *then, "list 0", "zeros"])
         for place, what in enumerate(then):
             self.assertEqual(self.order(shapes, True, tied=False, ends=what), ["list 0", *then[:place + 1]])
-        self.assertEqual(self.order(shapes, True, content, tied=False)[:3], ["list 0", "list 0", "list 1"])
+        self.assertEqual(self.order(shapes, True, content, tied=False), ["list 0", "list 0", "list 1"])
+        for shape, wanted in zip(shapes, (["list 0", "stays", "list 0", "list 1"], ["list 0", "list 0", "stays", "list 1"])):
+            content.trial.shape = shape
+            self.assertEqual(self.order(shapes, True, content, tied=False), wanted)
         self.assertEqual(self.order((Shape("5", 3), *shapes), True)[:4], ["list 0", "list 0", *then])
 
     def test_no_parity_or_no_marks(self) -> None:

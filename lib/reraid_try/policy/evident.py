@@ -25,6 +25,7 @@ from . import cures, mirrors, plain, thousands
 from .cures import Family
 from .hunt import Hunt
 from .plain import Aim, Span
+from .shapes import Shape
 from .steps import Step, delayed, of_kinds
 from .trials import Trial
 
@@ -332,12 +333,15 @@ class Evident:
     def plain_steps(self, aim: Aim, hunt: Hunt, before: int) -> bool:
         """The trials of the shapes of an aim with nothing loosened. Where parity tells nothing at a shape, and no candidate is content, what one kind
         of group needs, and parity that stays for several rows, come before the next shape, with another disk lost, of which more sets pass by few
-        landmarks. It says whether nothing more is to be seen."""
+        landmarks. Parity that stays is asked for too where a candidate of the shape is content, since of metadata in the first rows a checker is
+        content without. It says whether nothing more is to be seen."""
         for shape, following in itertools.zip_longest(aim.shapes, aim.shapes[1:]):
-            more = [] if shape.parity or following is None else [of_kinds(shape), delayed(shape)]
-            for step in (Step((shape,), 0), *more):
-                if (step.count == 0 or not self.is_content(before)) and self.search.take_step(step, hunt):
-                    return True
+            if self.search.take_step(Step((shape,), 0), hunt):
+                return True
+            early = following is not None and not self.is_content(before)
+            more = [of_kinds(shape)] * early + [delayed(shape)] * (early or self.is_content(before, shape))
+            if not shape.parity and any(self.search.take_step(step, hunt) for step in more):
+                return True
         return self.is_closed(before)
 
     def take_step(self, aim: Aim, count: int, hunt: Hunt, before: int) -> bool:
@@ -348,9 +352,9 @@ class Evident:
         """A candidate that was tested since is encrypted, and parity speaks for it."""
         return any(map(is_closed, self.since(before)))
 
-    def is_content(self, before: int) -> bool:
-        """A candidate that was tested since has a sign."""
-        return any(it.score >= Score.CHECKED for it in self.since(before))
+    def is_content(self, before: int, shape: Shape | None = None) -> bool:
+        """A candidate that was tested since has a sign; one of a shape, where it is named."""
+        return any(it.score >= Score.CHECKED and (shape is None or it.trial.shape == shape) for it in self.since(before))
 
     def since(self, before: int) -> list[Candidate]:
         """The candidates that were tested behind so many."""

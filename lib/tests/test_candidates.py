@@ -270,6 +270,20 @@ class Kin(unittest.TestCase):
         kin.in_order([doubted, candidate(SET, whole())], self.images)
         self.assertEqual((doubted.score, doubted.doubts), (Score.KNOWN, ["another set of these images, which contradicts it, has long whole files"]))
 
+    def test_contradicted_by_one_with_whole_files(self) -> None:
+        """Of two sets with one sign, that in which files were found and none is whole has none beside one with a whole file."""
+        def found(files: int, whole_ones: int) -> Verdict:
+            return Verdict([Finding("", "xfs", True, "said", (Piece(0, 1000),))], Wholes(files, whole_ones, 20 * whole_ones), length=1000)
+        right = "5:la*16:none:128:2048:0,1,2"
+        for files, other, text, signs in (((3, 0), (3, 1), right, ("", "+")), ((0, 0), (3, 1), right, ("+", "+")),
+                                          ((3, 0), (3, 0), right, ("+", "+")), ((3, 1), (3, 1), right, ("+", "+")), ((3, 0), (3, 1), "5:ls:none:128:2048:5,1,2", ("+", "+"))):
+            some = [candidate(SET, found(*files)), candidate(text, found(*other))]
+            kin.in_order(some, self.images)
+            self.assertEqual(tuple(it.score.sign for it in some), signs)
+        broken = candidate(SET, found(3, 0))
+        kin.in_order([broken, candidate(right, found(3, 1))], self.images)
+        self.assertEqual(broken.doubts, ["another set of these images, which contradicts it, has whole files, and of those in this one none is"])
+
     def test_rows_of_nothing_before_the_volume(self) -> None:
         """Of sets of which one has rows before the volume of another, with nothing known in them, that has the sign whose volume begins with
         something."""

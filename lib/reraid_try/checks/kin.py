@@ -19,6 +19,7 @@ BY_SLOT = "by-slot"
 PLAIN = ("0", "plain", "none")
 # Why a set has no sign beside another one.
 CONTENT = "another set of these images, which contradicts it, has long whole files"
+BROKEN = "another set of these images, which contradicts it, has whole files, and of those in this one none is"
 UNSOUND = "parity holds in far fewer rows than with another set of these images, which has long whole files too"
 
 
@@ -98,8 +99,11 @@ def rivalled(it: Candidate, other: Candidate, same: Mapping[int, int]) -> str:
         return f"what is found in it begins behind its first {rows} rows of chunks, where the volume of another set begins"
     if other.whole is it and is_sounder(other, it):
         return f"{counted(it.unsound or 0, 'unsound row')}, and none {other.trial.loosened[-1]}, which is old or damaged there"
-    if it is other or other.score is not Score.WHOLE or not contradict(it, other, same):
+    broken = it.score is Score.CHECKED and it.found.files.found > 0 and not it.found.files.longest_of_all and other.found.files.longest_of_all > 0
+    if it is other or not (broken or other.score is Score.WHOLE) or not contradict(it, other, same):
         return ""
+    if other.score is not Score.WHOLE:
+        return BROKEN
     if it.score is Score.CHECKED:
         return CONTENT
     bad = (it.unsound or 0) - (other.unsound or 0)

@@ -276,7 +276,8 @@ class Kin(unittest.TestCase):
             return Verdict([Finding("", "xfs", True, "said", (Piece(0, 1000),))], Wholes(files, whole_ones, 20 * whole_ones), length=1000)
         right = "5:la*16:none:128:2048:0,1,2"
         for files, other, text, signs in (((3, 0), (3, 1), right, ("", "+")), ((0, 0), (3, 1), right, ("+", "+")),
-                                          ((3, 0), (3, 0), right, ("+", "+")), ((3, 1), (3, 1), right, ("+", "+")), ((3, 0), (3, 1), "5:ls:none:128:2048:5,1,2", ("+", "+"))):
+                                          ((3, 0), (3, 0), right, ("+", "+")), ((3, 1), (3, 1), right, ("+", "+")),
+                                          ((3, 0), (3, 1), "5:ls:none:128:2048:5,1,2", ("+", "+"))):
             some = [candidate(SET, found(*files)), candidate(text, found(*other))]
             kin.in_order(some, self.images)
             self.assertEqual(tuple(it.score.sign for it in some), signs)

@@ -548,6 +548,17 @@ class Looks(InFolder):
                 verdict = self.checkers(("xfs_repair", put("", status))).look(self.volume((0, self.xfs(4096 * SECTOR))), [], 4096, 8192)
             self.assertEqual((verdict.score, long.called), (score, status == 0 and more))
 
+    def test_long_files_where_there_is_no_checker(self) -> None:
+        """Files alone tell of an exFAT, and the first ones may all be short: those that may be long are looked for, unless most are broken."""
+        head = bytearray(SECTOR)
+        head[3:11] = b"EXFAT   "
+        head[72:80], head[108] = (8192).to_bytes(8, "little"), 9
+        for whole, more, score in ((60, True, Score.WHOLE), (60, False, Score.KNOWN), (20, True, Score.KNOWN)):
+            with mock.patch.object(wholes, "count", return_value=Wholes(64, whole, 4000, more)), \
+                    mock.patch.object(wholes, "count_long", return_value=Wholes(1, 1, 9000)) as long:
+                verdict = self.checkers().look(self.volume((0, bytes(head)), (4095, bytes(SECTOR))), [], 4096, 8192)
+            self.assertEqual((verdict.score, long.called), (score, whole == 60 and more))
+
     def test_encrypted(self) -> None:
         verdict = self.checkers().look(self.volume((0, b"LUKS\xba\xbe")), [], 4096, 8192)
         self.assertEqual((verdict.text(), verdict.score), ("crypto_LUKS: encrypted", Score.KNOWN))

@@ -179,6 +179,6 @@ class Checkers:
         """Counts the files that are whole, and those that may be long where the first ones do not tell."""
         most, verdict = min(it.volume.length, self.most), it.verdict
         verdict.files = wholes.count(it.volume.path, 0, most, FILES_TIMES * self.seconds)
-        doubted = verdict.score is Score.CHECKED or verdict.within_chunks
-        if verdict.clean and (verdict.unjoined or verdict.files.more and doubted):
+        doubted = verdict.score is Score.CHECKED or verdict.within_chunks or verdict.unchecked
+        if verdict.clean and verdict.unjoined or verdict.files.more and doubted and (verdict.clean or verdict.unchecked):
             verdict.files.long = wholes.count_long(it.volume.path, most, verdict.row, verdict.chunk, self.seconds)

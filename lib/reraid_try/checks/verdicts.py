@@ -122,6 +122,12 @@ class Verdict:
         return bool(told) and all(told)
 
     @property
+    def unchecked(self) -> bool:
+        """What was found has no checker, so that files alone tell: and at least half of the first ones are whole."""
+        told = any(finding.clean is not None for finding in self.findings)
+        return bool(self.inner) and not told and not self.settled and 0 < self.files.found <= 2 * self.files.whole
+
+    @property
     def whole(self) -> bool:
         """A file that is longer than a row of chunks is whole, and at least half of the first ones are."""
         return self.files.longest_of_all > self.row and 2 * self.files.whole >= self.files.found

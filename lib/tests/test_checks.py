@@ -558,6 +558,9 @@ class Looks(InFolder):
                     mock.patch.object(wholes, "count_long", return_value=Wholes(1, 1, 9000)) as long:
                 verdict = self.checkers().look(self.volume((0, bytes(head)), (4095, bytes(SECTOR))), [], 4096, 8192)
             self.assertEqual((verdict.score, long.called), (score, whole == 60 and more))
+        with mock.patch.object(wholes, "count", return_value=Wholes(64, 60, 9000, True)), mock.patch.object(wholes, "count_long") as long:
+            verdict = self.checkers(("xfs_repair", put(""))).look(self.volume((0, self.xfs(4096 * SECTOR))), [], 4096, 8192)
+        self.assertEqual((verdict.score, long.called), (Score.WHOLE, False))
 
     def test_encrypted(self) -> None:
         verdict = self.checkers().look(self.volume((0, b"LUKS\xba\xbe")), [], 4096, 8192)

@@ -43,6 +43,10 @@ class Unread(InFolder):
             self.assertEqual(file.seek(1000), 1000)
             self.assertEqual((file.read(10), file.tell()), (self.data[1000:1010], 1010))
             self.assertEqual(file.seek(0, os.SEEK_END), len(self.data))
+        raw = unread.Unread(self.name)
+        self.addCleanup(raw.close)
+        raw.seek(20 * SECTOR)
+        self.assertEqual((raw.readinto(bytearray(SECTOR)), raw.tell()), (100, len(self.data)))
 
     def test_zeros_for_what_is_lost(self) -> None:
         with mock.patch("os.pread", fails_at(0, 7, 8, 20)), unread.opened(self.name) as file:

@@ -421,6 +421,18 @@ class OfRows(unittest.TestCase):
             self.assertEqual([it.text("abcd").endswith("of 1000; perhaps it was being rebuilt, up to there") for it in found], [end])
         self.assertNotIn("rebuilt", rows.Old(3, 1, Checked(3, 1000), Bounds(0, 900), True).text("abcd"))
 
+    def test_who_is_bad(self) -> None:
+        """Which image is bad parity tells only where the others have some without it."""
+        for word, said in (("6:ls:by-data:128:2048:0,-,1,2", "d is old or damaged from"),
+                           ("6:ls:by-data:128:2048:0,-,1,-", "or another image, is old"),
+                           ("5:ls:none:128:2048:0,-,1,2", "d, or another image, is old or damaged from")):
+            hunt = hunt_of(self.unsound(600, 601, 700))
+            images = tuple(Image(f"i{k}", k, 8000, last=7000) for k in range(4))
+            setattr(hunt, "evidence", types.SimpleNamespace(images=images, filled=1000, window=8000, end=8000))
+            found = Rows(hunt).old(candidate(word))
+            self.assertTrue(found)
+            self.assertTrue(all(said in it.text("abcd") for it in found), [it.text("abcd") for it in found])
+
     def test_reshape(self) -> None:
         marks = [("super", 0, 2048 + 1280 * k, "every:49152:4:0") for k in range(8)]
 

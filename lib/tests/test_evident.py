@@ -26,9 +26,9 @@ from reraid_try.evidence.unlike import Unlike
 from reraid_try.options import Options
 from reraid_try.policy import evident as evident_module
 from reraid_try.policy.evident import Evident, Later, Part
-from reraid_try.policy.plain import Aim, Span
+from reraid_try.policy.plain import Aim, Span, Unsound
 from reraid_try.policy.shapes import Shape
-from reraid_try.policy.steps import Step
+from reraid_try.policy.steps import Step, is_of_bad_rows
 from reraid_try.policy.trials import Trial
 
 from . import rows
@@ -503,6 +503,11 @@ class Sought(unittest.TestCase):
         setattr(it, "copies", copies)
         setattr(it, "plainly", plainly)
         setattr(it, "loosened", loosened)
+
+        def with_all(_hunt: Any, _aim: Aim, unsound: Unsound, before: int) -> bool:
+            done.append(f"all {unsound.images} {before}")
+            return 1 in unsound.images
+        setattr(it, "with_all", with_all)
         with mock.patch("reraid_try.policy.evident.Hunt") as hunt:
             later: list[Later] = []
             told = it.seek(aim, later)
@@ -524,6 +529,48 @@ class Sought(unittest.TestCase):
         self.assertEqual(self.seek(dataclasses.replace(aim, moved=(8, 0)), Score.CHECKED)[:2], (True, ["evidence", "plain 1 why", "loosened 1 why"]))
         self.assertEqual(self.seek(aim, ends=True)[:2], (False, ["evidence", "plain 1 why"]))
         self.assertEqual(self.seek(copied, ends=True)[:2], (False, ["evidence", "copies 1"]))
+        for images in ((0, 1, 2), (0, 2)):
+            every = dataclasses.replace(aim, unsound=Unsound(images, Shape("5", 3)))
+            then = ["loosened 1 why"] * (1 not in images)
+            self.assertEqual(self.seek(every)[1], ["evidence", "plain 1 why", f"all {images} 1", *then])
+            self.assertEqual(self.seek(every, ends=True)[1], ["evidence", "plain 1 why", f"all {images} 1"])
+
+    def with_all(self, images: tuple[int, ...], has: int | None) -> tuple[list[Any], list[Any], list[str], bool]:
+        """The trials of an aim over images 2 and 0 with all of a family, the hunts that were begun for them, what was said, and whether a candidate
+        with all of them has a sign, where the trial with so many things loosened finds it, 0 of which is one that was there before."""
+        it, report = evident([Image(name, number, 900, first=8) for number, name in enumerate("abc")], NoTools({}), Options(("a",), seconds=60))
+        setattr(it.search, "say_late", None)
+        true, less = (cast(Any, types.SimpleNamespace(score=Score.WHOLE, word=types.SimpleNamespace(images=those))) for those in ((0, 1, 2), (1,)))
+        steps: list[Any] = []
+
+        def step(asked: Step, hunt: Any) -> bool:
+            """A trial."""
+            steps.append((hunt.name, asked.count, asked.shapes, hunt.program.seconds, asked.only, it.search.why))
+            it.search.tested += [true] * (has == asked.count)
+            return False
+        setattr(it.search, "take_step", step)
+        it.search.why = "why"
+        it.search.tested += [true, less] + [true] * (has == 0)
+        unsound = Unsound(images, Shape("5", 3))
+        aim = Aim((2, 0), Span(100, 300, True), "why", asked=(("chunks", "8"),), tied=True, unsound=unsound)
+        with mock.patch("reraid_try.policy.evident.Hunt") as hunt:
+            hunt.return_value = types.SimpleNamespace(name="new", program=types.SimpleNamespace(seconds=10))
+            over = cast(Any, types.SimpleNamespace(name="old", program=types.SimpleNamespace(seconds=10)))
+            told = it.with_all(over, aim, unsound, 1)
+            self.assertEqual(it.search.why, "why")
+            return steps, [([one.number for one in call[0][2]], call[1]) for call in hunt.call_args_list], report.lines, told
+
+    def test_with_all(self) -> None:
+        """Where few rows leave images out, all of the family are tried as well, with rows that may be bad, until a candidate with all of them has a
+        sign: in the same hunt where the images are the same, and else in one over all of them."""
+        for images, name in (((2, 0), "old"), ((0, 1, 2), "new")):
+            why = Unsound(images, Shape("5", 3)).line()
+            for has, count in ((None, 2), (0, 0), (1, 1), (2, 2)):
+                steps, begun, said, told = self.with_all(images, has)
+                self.assertIs(told, has is not None)
+                self.assertEqual(steps, [(name, number, (Shape("5", 3),), 60, is_of_bad_rows, why) for number in (1, 2)][:count])
+                self.assertEqual(begun, [([0, 1, 2], {"start": 100, "asked": {"chunks": "8"}, "tied": True})] * (name == "new" and count > 0))
+                self.assertEqual(said, [why] * (count > 0))
 
     def test_asked_by_one(self) -> None:
         """That the program does not know a command is kept in mind, so one asks all of it, in the whole time of a trial."""

@@ -49,6 +49,22 @@ class Shapes(unittest.TestCase):
         # Where a level 5 has lost a disk already, an old one would be one too many.
         self.assertEqual(self.shapes(family(4, "5", 0, loose=9)), [Shape("5", 5, 1)])
 
+    def test_unsound(self) -> None:
+        """What few rows leave out, or do not tie, may be bad areas: all images are tried as well. Not where these are many rows, nor where parity
+        tells nothing with all of them."""
+        def unsound(it: Family) -> tuple[tuple[int, ...], Shape] | None:
+            """The images and the shape that are tried as well."""
+            aim, = plain.tied(Told((Known(it),), (), True), it.images, SPAN, ALL)
+            return (aim.unsound.images, aim.unsound.shape) if aim.unsound else None
+        self.assertEqual(unsound(family(4, "5", 1, loose=125)), ((0, 1, 2, 3), Shape("5", 4)))
+        self.assertIsNone(unsound(family(4, "5", 1, loose=126)))
+        self.assertIsNone(unsound(family(4, "5", 1)))
+        self.assertIsNone(unsound(family(4, "5", 0, loose=9)))
+        old = (Old(0, 50, 50), Old(4, 60, 50))
+        self.assertEqual(unsound(family(6, "6", 2, old)), ((0, 1, 2, 3, 4, 5), Shape("6", 6)))
+        self.assertEqual(unsound(family(6, "6", 1, (Old(4, 60, 50),))), ((0, 1, 2, 3, 4, 5), Shape("6", 7, 1)))
+        self.assertIsNone(unsound(family(6, "6", 2, (Old(0, 60, 50), Old(4, 66, 50)))))
+
     def test_options(self) -> None:
         """Levels and members that are not asked for are not tried."""
         told = Told((Known(family(4, "5", 1)),), (), True)

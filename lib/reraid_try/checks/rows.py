@@ -98,21 +98,23 @@ def rows_in_words(told: Checked, bounds: Bounds) -> str:
 
 @dataclasses.dataclass(frozen=True)
 class Old:
-    """An image in no slot that belongs into an empty one, where parity holds with it but in some rows: there it is old, or damaged. `to_end` says
-    that these go on to where the other images end to hold something."""
+    """An image in no slot that belongs into an empty one, where parity holds with it but in some rows: there it is old or damaged, or another image
+    is, where the others have no parity without it. `to_end` says that these go on to where the other images end to hold something."""
 
     image: int
     slot: int
     told: Checked
     bounds: Bounds
     to_end: bool = False
+    blamed: bool = True
 
     def text(self, names: Sequence[str]) -> str:
         """What is said of it."""
         since = f" from row {self.bounds.first} on" if self.bounds.first is not None else ""
         rebuilt = "; perhaps it was being rebuilt, up to there" if self.bounds.first and self.to_end else ""
-        return (f"{names[self.image]} is old or damaged{since}: as slot {self.slot} parity holds with it in all rows but {self.told.unsound} of "
-                f"{self.told.rows}{rebuilt}")
+        other = "" if self.blamed else ", or another image,"
+        return (f"{names[self.image]}{other} is old or damaged{since}: as slot {self.slot} parity holds with it in all rows but "
+                f"{self.told.unsound} of {self.told.rows}{rebuilt}")
 
 
 @dataclasses.dataclass(frozen=True)
@@ -206,7 +208,7 @@ class Rows:
         bounds, images = self.bounds(near), self.hunt.evidence.images
         lasts = [it.last for place, it in enumerate(images) if place in word.images and it.number != image.number and it.last is not None]
         to_end = bounds.last is not None and bool(lasts) and max(lasts) - word.offset <= bounds.last + word.chunk
-        return [Old(image.number, slot, near.told, bounds, to_end)]
+        return [Old(image.number, slot, near.told, bounds, to_end, word.spare > 1)]
 
     def turned(self, near: Near) -> Turned | None:
         """The row before which the marks of a group fit and behind which none does; None for most sets."""

@@ -24,9 +24,9 @@ from ..evidence.unlike import Unlike
 from . import cures, mirrors, plain, thousands
 from .cures import Family
 from .hunt import Hunt
-from .plain import Aim, Span
+from .plain import Aim, Span, Unsound
 from .shapes import Shape
-from .steps import Step, delayed, of_kinds
+from .steps import Step, delayed, of_kinds, with_bad_rows
 from .trials import Trial
 
 if TYPE_CHECKING:
@@ -207,13 +207,37 @@ class Evident:
         hunt = Hunt(self.options, search.commands, images, search.say_late, start=aim.span.first, asked=dict(aim.asked), tied=aim.tied)
         hunt.ask_places = functools.partial(self.places_of, aim)
         search.say_evidence(hunt)
-        if not self.by_thousands(hunt, aim, before) and not (aim.copied and self.copies(hunt, aim, before)) and not self.plainly(hunt, aim, before):
+        ended = self.by_thousands(hunt, aim, before) or aim.copied and self.copies(hunt, aim, before) or self.plainly(hunt, aim, before)
+        if aim.unsound and self.with_all(hunt, aim, aim.unsound, before):
+            ended = True
+        if not ended:
             if aim.moved:
                 later.append(Later(aim, hunt))
             else:
                 self.loosened(hunt, aim, before)
         search.why = ""
         return any(map(enough, self.since(before)))
+
+    def with_all(self, hunt: Hunt, aim: Aim, unsound: Unsound, before: int) -> bool:
+        """The trials of an aim with all images of the family in slots, where rows may be bad, unless such a candidate has a sign already: what leaves
+        some out may be whole too, and does not say that these are old. It says whether there is such a candidate."""
+        if self.has_all(unsound, before):
+            return True
+        search, why = self.search, self.search.why
+        search.report.say("reason", unsound.line(), images=list(unsound.images), first=aim.span.first, end=aim.span.end, why=unsound.line())
+        search.why = unsound.line()
+        if unsound.images != aim.images:
+            hunt = Hunt(self.options, search.commands, self.within(unsound.images, aim.span), search.say_late, start=aim.span.first,
+                        asked=dict(aim.asked), tied=True)
+        hunt.program.seconds = search.options.seconds
+        steps = (with_bad_rows(count, unsound.shape) for count in range(1, MOST_LOOSENED + 1))
+        found = any(search.take_step(step, hunt) or self.has_all(unsound, before) for step in steps)
+        search.why = why
+        return found
+
+    def has_all(self, unsound: Unsound, before: int) -> bool:
+        """A candidate that was tested since has a sign, with all images of a family in slots."""
+        return any(it.score >= Score.CHECKED and set(unsound.images) <= set(it.word.images) for it in self.since(before))
 
     def loosen(self, it: Later) -> bool:
         """The trials of an aim with something loosened, which were left for later; it says whether a candidate says enough."""

@@ -18,6 +18,8 @@ from .shapes import Shape
 
 # So many members are missing in what may be RAID 10 before what parity ties is tried, and so many in what may be one after it.
 FEW_MISSING, MORE_MISSING = (0, 1), tuple(range(2, MOST_MISSING + 1))
+# Where ties leave an image out in no more than one of so many tied rows, that may be bad areas in place of an old disk.
+FEW_LEFT_OUT = 4
 
 
 @dataclasses.dataclass(frozen=True)
@@ -30,13 +32,25 @@ class Span:
 
 
 @dataclasses.dataclass(frozen=True)
+class Unsound:
+    """All images of a family, and their shape, where some rows of these may be bad: what ties leave out in few rows is no old disk then."""
+
+    images: tuple[int, ...]
+    shape: Shape
+
+    def line(self) -> str:
+        """Why it is tried."""
+        return f"bad areas may be in place of an old disk, so all of {ties.named(self.images)} are tried too, with rows that may be bad"
+
+
+@dataclasses.dataclass(frozen=True)
 class Aim:
     """Images, by their numbers, that are searched as an array, in a part of each; the shapes that are tried, in order, and why. `asked` are operands
     that are asked for in each trial, as far as they are known; `copied` says that RAID 10 is tried before them, `tied` that parity ties
     them; `begin` is a row of the array, so that its data do not begin later, None where none is known; `moved` has the offset of each image, where
     these are known and not the same; `apart` says how far apart the copies lie, where they do not lie side by side; `missing` are the numbers of
     members that may be missing where copies are asked for; `by_thousands` are the shapes at
-    which landmarks by the thousand are asked where they fit, before all else."""
+    which landmarks by the thousand are asked where they fit, before all else; `unsound` is tried besides, whatever is found without some images."""
 
     images: tuple[int, ...]
     span: Span
@@ -50,6 +64,7 @@ class Aim:
     apart: int | None = None
     missing: tuple[int, ...] = tuple(range(MOST_MISSING + 1))
     by_thousands: tuple[Shape, ...] = ()
+    unsound: Unsound | None = None
 
     @property
     def is_each(self) -> bool:
@@ -72,6 +87,16 @@ def shapes_of(family: Family) -> Iterator[Shape]:
         yield Shape(level, images + lost, lost + 1, 1)
 
 
+def unsound_of(family: Family, options: Options) -> Unsound | None:
+    """All images of a family that ties leave some of out, or leave untied, in few rows; None where they do in many, or parity tells nothing then."""
+    level = family.level or ""
+    out, lost = family.loose + sum(it.rows for it in family.old), max(0, LEVELS[level].parity - family.parity)
+    if not out or FEW_LEFT_OUT * out > family.rows or lost >= LEVELS[level].parity:
+        return None
+    found = allowed([Shape(level, len(family.images) + lost, lost)], options)
+    return Unsound(family.images, found[0]) if found else None
+
+
 def allowed(shapes: Iterable[Shape], options: Options) -> tuple[Shape, ...]:
     """Those of these shapes that the options ask for, each once."""
     return tuple(dict.fromkeys(it for it in shapes if options.wants(it.levels) and it.members >= LEVELS[it.levels].least
@@ -82,7 +107,8 @@ def aim_of(known: Known, span: Span, options: Options) -> Aim:
     """What is tried of images that parity ties."""
     family = known.family
     why = f"{ties.named(family.images)}: {ties.lost_line(family)}"
-    return Aim(family.current, span, why, allowed(shapes_of(family), options), chunks(known.chunk), tied=True, begin=known.begin)
+    return Aim(family.current, span, why, allowed(shapes_of(family), options), chunks(known.chunk), tied=True, begin=known.begin,
+               unsound=unsound_of(family, options))
 
 
 def chunks(chunk: int | None) -> tuple[tuple[str, str], ...]:

@@ -29,6 +29,16 @@ def is_of_kind(cure: Cure) -> bool:
     return cure.kind is not None
 
 
+def is_of_bad_rows(cure: Cure) -> bool:
+    """Rows may be bad, or it is made for one kind of group."""
+    return cure.family is Family.BAD_ROWS or is_of_kind(cure)
+
+
+def with_bad_rows(count: int, *shapes: Shape) -> Step:
+    """The trials in which rows may be bad, with what one kind of group needs where two things are loosened, of some shapes."""
+    return Step(shapes, count, only=is_of_bad_rows)
+
+
 def delayed(*shapes: Shape) -> Step:
     """The trials in which parity stays for several rows, with nothing else loosened, of some shapes."""
     return Step(shapes, 1, every=True, only=stays)

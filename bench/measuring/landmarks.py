@@ -5,7 +5,8 @@ rounds, with the volume unmounted between. Each array has an order of the disks,
 
 `survey` is asked with the level, the offset and the kind, at level 6 also with the order of Q, of which no landmark says anything; then `list` for
 the highest LEAST with which any set passes, where that is the bound of the group with most marks, and any number of misfits may be. An array
-counts where the sets that pass then all make one volume, which is that of the true set.
+counts where the true set passes then, and each other one puts every data chunk that is there where the true one does: of what is lost no landmark
+on an image says anything, so `n-continue` with its slots turned by one, which is `ls` with P and Q exchanged, cannot be told from it.
 
 Usage: bench/measuring/landmarks.py PROGRAM [--folder DIR] [--mebibytes N] [--disks] [WORD..]
 Needs root, for loop mounts, and the Debian packages e2fsprogs, xfsprogs and btrfs-progs; for volumes of 2,048 MiB, which is what is usual, 11 GiB
@@ -238,13 +239,23 @@ def told(program: str, array: Array, plan: str, made: Made) -> Found:
     return Found(marks, low, sets, int(last.split()[1]))
 
 
+def held(word: str) -> tuple[str, str, list[list[str]]]:
+    """What landmarks may say of a set: its chunk, its offset, and on which image each data chunk lies of as many rows as it has members, after which
+    the rows are as the first ones again; `-` stands for those that are lost."""
+    level, pattern, _, chunk, offset, slots = word.split(":")
+    images = slots.split(",")
+    parity, members = disks.PARITY[level], len(images)
+    return chunk, offset, [[images[slot] for slot in disks.item_slots(pattern, row, members, parity)] for row in range(members)]
+
+
 def tried(program: str, array: Array, made: Made) -> bool:
     """Looks at an array, and prints its line."""
     began = time.monotonic()
     plan = surveyed(program, array, made)
     between = time.monotonic()
     found = told(program, array, plan, made)
-    well = found.classes == 1 and any(line.split()[1] == made.word for line in found.sets)
+    words = [line.split()[1] for line in found.sets]
+    well = made.word in words and all(held(word) == held(made.word) for word in words)
     seconds = f"survey {between - began:.1f} s, list {time.monotonic() - between:.1f} s"
     print(f"{'ok' if well else 'NOT'} {array.name()}: {found.least} of {found.marks} marks fit, {len(found.sets)} sets of {found.classes} volumes; "
           f"{seconds}", flush=True)

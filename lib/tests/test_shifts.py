@@ -122,6 +122,13 @@ class Told(unittest.TestCase):
         """Of distances that do not agree those count that most sectors have; nothing of none."""
         self.assertEqual(shifts.strongest([Shift(0, 1, 8, 20), Shift(1, 2, -24, 30), Shift(0, 2, -40, 25)]), {0: 40, 1: 24, 2: 0})
         self.assertEqual(shifts.strongest([]), {})
+        # Two that agree count together, and a weaker one beside one that tells; one that none tells counts for nothing.
+        found = [Shift(0, 1, 0, 57), Shift(0, 2, 24, 82), Shift(0, 3, 265, 88), Shift(1, 2, 24, 110), Shift(1, 3, 49, 150), Shift(2, 3, 25, 53)]
+        self.assertEqual(shifts.strongest(found), {0: 0, 1: 0, 2: 24, 3: 49})
+        two, weak = [Shift(0, 1, 8, 30), Shift(0, 2, 5, 20), Shift(1, 2, 0, 22)], Shift(0, 2, 5, 3)
+        self.assertEqual(shifts.strongest(two), {0: 0, 1: 8, 2: 8})
+        self.assertEqual(shifts.strongest(two, [weak]), {0: 0, 1: 8, 2: 5})
+        self.assertEqual(shifts.strongest(two, [weak, Shift(1, 2, 90, 99)]), {0: 0, 1: 8, 2: 5})
 
     def test_agree(self) -> None:
         """Distances that might not agree and do; in a chain they cannot but agree, and of some images they say nothing of the others."""
@@ -131,6 +138,10 @@ class Told(unittest.TestCase):
         self.assertFalse(shifts.agree(ring, 4))
         self.assertFalse(shifts.agree([*ring, Shift(3, 4, 8, 20)], 4))
         self.assertFalse(shifts.agree([Shift(0, 1, 8, 20), Shift(1, 2, 8, 30), Shift(0, 2, -8, 25)], 3))
+        # One of many may be another one.
+        many = [Shift(one, other, 8 * (other - one), 20) for one in range(4) for other in range(one + 1, 4)]
+        self.assertTrue(shifts.agree([*many[:5], Shift(2, 3, 800, 19)], 4))
+        self.assertFalse(shifts.agree([*many[:4], Shift(1, 3, 800, 19), Shift(2, 3, 88, 19)], 4))
 
     def test_apart(self) -> None:
         """Copies one chunk further on the next disk, as of a RAID 10 with the layout offset=2; far ones; beginnings are none."""

@@ -7,7 +7,7 @@ import collections
 import dataclasses
 import itertools
 import zlib
-from collections.abc import Iterator, Mapping, Sequence
+from collections.abc import Iterable, Iterator, Mapping, Sequence
 
 from ..calls.sets import FAR, MOST_COPIES, OFFSET
 from .families import connected
@@ -23,6 +23,8 @@ MOST_CHUNK = 32768
 # Beside what tells, of two images so many distances are kept that so many sectors have, for where parity is to say which is right. Partitions and
 # logical volumes begin multiples of so many sectors apart.
 MOST_WEAKER, LEAST_WEAKER, WHOLE = 3, 3, 2048
+# Of so many distances one may be of files that are stored twice, and not of where the data begin.
+MOST_OTHERS = 4
 # Data begin at a multiple of so many sectors, and a chunk of md has no fewer: equal files lie apart by any number.
 ALIGNED = 8
 
@@ -119,26 +121,38 @@ def potentials(found: Sequence[Shift]) -> dict[int, int] | None:
     return places or None
 
 
-def strongest(found: Sequence[Shift]) -> dict[int, int]:
+def strongest(found: Sequence[Shift], weaker: Sequence[Shift] = ()) -> dict[int, int]:
     """How much further the data of each image begin than those of the image where they begin first, by the distances that most sectors have of those
-    by which each image is reached, whatever others say."""
+    by which each image is reached, whatever others say. The sectors of those that agree count together, of weaker ones too."""
     places: dict[int, int] = {}
-    left = sorted(found, key=lambda it: -it.shown)
-    if left:
-        places[left[0].one] = 0
-    while it := next((it for it in left if (it.one in places) != (it.other in places)), None):
-        if it.one in places:
-            places[it.other] = places[it.one] + it.distance
-        else:
-            places[it.one] = places[it.other] - it.distance
+    if found:
+        places[max(found, key=lambda it: it.shown).one] = 0
+    while told := set(reached(found, places)):
+        shown: collections.Counter[tuple[int, int]] = collections.Counter()
+        for it in (*found, *weaker):
+            for placed in reached([it], places):
+                shown[placed] += it.shown if placed in told else 0
+        image, place = shown.most_common(1)[0][0]
+        places[image] = place
     least = min(places.values(), default=0)
     return {image: place - least for image, place in places.items()}
 
 
+def reached(found: Iterable[Shift], places: Mapping[int, int]) -> Iterator[tuple[int, int]]:
+    """The images that have no place yet, each with the place that a distance from one that has gives it."""
+    for it in found:
+        if it.one in places and it.other not in places:
+            yield it.other, places[it.one] + it.distance
+        elif it.other in places and it.one not in places:
+            yield it.one, places[it.other] - it.distance
+
+
 def agree(found: Sequence[Shift], images: int) -> bool:
-    """Distances connect all of so many images and agree with one beginning of each, and are so many that they need not: where each image is reached
-    in one way alone any distances agree, those of copies on the next disk too."""
-    return len(found) >= images and len(potentials(found) or ()) == images
+    """Distances connect all of so many images, and nearly all agree with one beginning of each, so many that they need not: where each image is
+    reached in one way alone any distances agree, those of copies on the next disk too."""
+    places = strongest(found)
+    agreed = sum(places[it.other] - places[it.one] == it.distance for it in found if it.one in places and it.other in places)
+    return len(places) == images <= agreed and MOST_OTHERS * (len(found) - agreed) <= len(found)
 
 
 def apart(found: Sequence[Shift], images: int) -> int | None:

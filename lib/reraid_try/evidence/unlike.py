@@ -52,7 +52,8 @@ def parts(images: Sequence[Image], found: Distances) -> list[dict[int, int]]:
     """The images that distances connect, the largest part first, in each how much further the data of each begin than of the one where they begin
     first, by the distances that most sectors have; those without any, each by itself."""
     joined = connected((it.one, it.other) for it in found.told)
-    known = [shifts.strongest([it for it in found.told if it.one in part]) for part in sorted(joined, key=lambda it: (-len(it), min(it)))]
+    known = [shifts.strongest([it for it in found.told if it.one in part], [it for it in found.weaker if {it.one, it.other} <= part])
+             for part in sorted(joined, key=lambda it: (-len(it), min(it)))]
     within = {image for part in known for image in part}
     return known + [{image.number: 0} for image in images if image.number not in within]
 
@@ -148,7 +149,7 @@ def behind_loose(found: Relations, images: frozenset[int], near: bool) -> tuple[
 def look(ties: Ties, images: Sequence[Image], found: Distances, end: int, named: Starts) -> list[Unlike]:
     """The offsets at which parity ties all of these images in most rows, by where the data may begin; or else, where the distances agree, those at
     which it ties them in some. None where none of those that come into question do so."""
-    agreed = shifts.potentials(found.told) if shifts.agree(found.told, len(images)) else None
+    agreed = shifts.strongest(found.told, found.weaker) if shifts.agree(found.told, len(images)) else None
     perhaps: list[tuple[tuple[int, ...], Known]] = []
     until = time.monotonic() + ties.seconds / PART
     for way in ways(images, found, named):

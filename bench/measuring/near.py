@@ -50,6 +50,11 @@ def best(events):
     return [it["set"] for it in events if it["event"] == "candidate" and it["score"] == 3]
 
 
+def listed(events):
+    """All candidates."""
+    return [it["set"] for it in events if it["event"] == "candidate"]
+
+
 def damaged(name, place, step):
     """Overwrites a sector of every so many with noise, from the data's start on; it says which rows these are."""
     rows = list(range(place, os.path.getsize(name) // SECTOR - DATA, step))
@@ -155,12 +160,13 @@ def areas_one_lost(folder, cache):
 
 
 def areas_in_ntfs(folder, cache):
-    """Two of five images have bad areas, and file records are wrongly numbered: the true set is among the best, and that without them."""
+    """Two of five images have bad areas, and file records are wrongly numbered: the set without them is among the best, and the true one is listed.
+    That has no sign, since fewer files are whole in it."""
     order, true = large(Array("6", 5, (), "ntfs"), cache, folder)
     small_areas(order[0], [(9000, 300), (100000, 500), (200000, 200)])
     small_areas(order[2], [(30000, 400), (150000, 300)])
-    found = best(search(order))
-    return true in found and left_out(true, (0, 2)) in found
+    events = search(order)
+    return left_out(true, (0, 2)) in best(events) and true in listed(events)
 
 
 def foreign_disk(folder, cache):

@@ -245,14 +245,20 @@ class Kin(unittest.TestCase):
 
     def signs(self, good: str, *texts: str, start: int = 0) -> list[str]:
         """Of sets with a content checker what sign each has beside one with long whole files, whose part of the disks begins at some sector."""
-        other = hunt_of()
-        setattr(other, "evidence", types.SimpleNamespace(start=start, end=9000, filled=1000))
-        first = candidate(good, whole(), hunt=other)
-        content = [candidate(text, Verdict([Finding("", "xfs", True, "said", (Piece(0, 1000),))], length=1000)) for text in texts]
-        order = kin.in_order([*content, first], self.images)
-        self.assertEqual((order[0], first.score), (first, Score.WHOLE))
-        self.assertEqual([it.score for it in kin.in_order(order, self.images)], [it.score for it in order])
-        return [it.score.sign for it in content]
+        signs = []
+        for text in texts:
+            other = hunt_of()
+            setattr(other, "evidence", types.SimpleNamespace(start=start, end=9000, filled=1000))
+            first, content = candidate(good, whole(), hunt=other), candidate(text, self.found())
+            order = kin.in_order([content, first], self.images)
+            self.assertEqual((order[0], first.score), (first, Score.WHOLE))
+            self.assertEqual([it.score for it in kin.in_order(order, self.images)], [it.score for it in order])
+            signs.append(content.score.sign)
+        return signs
+
+    def found(self, files: int = 0, whole_ones: int = 0) -> Verdict:
+        """A volume with a content checker, and so many files, some of them whole."""
+        return Verdict([Finding("", "xfs", True, "said", (Piece(0, 1000),))], Wholes(files, whole_ones, 20 * whole_ones), length=1000)
 
     def test_contradicted_by_one_with_long_whole_files(self) -> None:
         others = ("5:rs:none:128:2048:0,1,2", "5:ls:none:64:2048:0,1,2", "5:ls:none:128:2048:1,0,2", "0:plain:none:128:2048:5,3",
@@ -272,18 +278,28 @@ class Kin(unittest.TestCase):
 
     def test_contradicted_by_one_with_whole_files(self) -> None:
         """Of two sets with one sign, that in which files were found and none is whole has none beside one with a whole file."""
-        def found(files: int, whole_ones: int) -> Verdict:
-            return Verdict([Finding("", "xfs", True, "said", (Piece(0, 1000),))], Wholes(files, whole_ones, 20 * whole_ones), length=1000)
-        right = "5:la*16:none:128:2048:0,1,2"
-        for files, other, text, signs in (((3, 0), (3, 1), right, ("", "+")), ((0, 0), (3, 1), right, ("+", "+")),
-                                          ((3, 0), (3, 0), right, ("+", "+")), ((3, 1), (3, 1), right, ("+", "+")),
-                                          ((3, 0), (3, 1), "5:ls:none:128:2048:5,1,2", ("+", "+"))):
-            some = [candidate(SET, found(*files)), candidate(text, found(*other))]
-            kin.in_order(some, self.images)
-            self.assertEqual(tuple(it.score.sign for it in some), signs)
-        broken = candidate(SET, found(3, 0))
-        kin.in_order([broken, candidate(right, found(3, 1))], self.images)
+        broken = candidate(SET, self.found(3, 0))
+        kin.in_order([broken, candidate("5:la*16:none:128:2048:0,1,2", self.found(3, 1))], self.images)
         self.assertEqual(broken.doubts, ["another set of these images, which contradicts it, has whole files, and of those in this one none is"])
+
+    def test_contradicted_by_one_with_as_much(self) -> None:
+        """Of two sets with one sign that has none beside which the other has as many whole files and as many fits, so that neither has one where they
+        are as many."""
+        right, same = "5:la*16:none:128:2048:0,1,2", "5:ls:none:128:2048:5,1,2"
+        for files, other, text, fits, signs in (((3, 0), (3, 1), right, (), ("", "+")), ((0, 0), (3, 1), right, (), ("", "+")),
+                                                ((3, 0), (3, 0), right, (), ("", "")), ((3, 1), (3, 1), right, (), ("", "")),
+                                                ((3, 0), (3, 1), same, (), ("+", "+")), ((3, 1), (3, 1), right, (9, 8), ("+", "")),
+                                                ((3, 1), (3, 1), right, (8, 9), ("", "+")), ((4, 1), (9, 2), right, (9, 8), ("+", "+"))):
+            some = [candidate(SET, self.found(*files)), candidate(text, self.found(*other))]
+            for it, count in zip(some, fits):
+                it.groups = (Held("xfs", 0, count, 0),)
+            for _ in range(2):
+                kin.in_order(some, self.images)
+                self.assertEqual(tuple(it.score.sign for it in some), signs)
+        alike = [candidate(text, self.found()) for text in (SET, right)]
+        kin.in_order(alike, self.images)
+        why = "another set of these images, which contradicts it, has as much for itself: at most one of them is right"
+        self.assertEqual([it.doubts for it in alike], [[why], [why]])
 
     def test_rows_of_nothing_before_the_volume(self) -> None:
         """Of sets of which one has rows before the volume of another, with nothing known in them, that has the sign whose volume begins with
@@ -360,6 +376,23 @@ class Damaged(unittest.TestCase):
         lesser.verdict, lesser.unsound = whole(), 0
         kin.in_order([it, lesser], Known.images)
         self.assertEqual(it.doubts, ["7 unsound rows, and none without image 2, which is old or damaged there"])
+
+    def test_no_sign_beside_one_with_more_whole_files(self) -> None:
+        """A set with unsound rows has no sign where more files are whole without an image, whether parity tells then or not."""
+        for text, more, score, signs in ((SET, 1, 9, ("", "++")), ("6:ls:after-q:128:2048:0,1,2,3", 1, 9, ("", "++")), (SET, 0, 9, ("++", "++")),
+                                         (SET, 1, 0, ("++", "+"))):
+            it = candidate(text, whole(), unsound=7)
+            lesser = damage.lesser(it, frozenset({2}))
+            lesser.verdict, lesser.unsound = whole(longest=score and it.found.files.longest), 3
+            lesser.verdict.files = dataclasses.replace(lesser.verdict.files, whole=it.found.files.whole + more, found=it.found.files.found + more)
+            kin.in_order([it, lesser], Known.images)
+            self.assertEqual((it.score.sign, lesser.score.sign), signs)
+        it = candidate(SET, whole(), unsound=7)
+        lesser = damage.lesser(it, frozenset({2}))
+        lesser.verdict = whole()
+        lesser.verdict.files = dataclasses.replace(lesser.verdict.files, whole=it.found.files.whole + 1, found=it.found.files.found + 1)
+        kin.in_order([it, lesser], Known.images)
+        self.assertEqual(it.doubts, ["7 unsound rows, and fewer files are whole than without image 2"])
 
 
 class OfRows(unittest.TestCase):

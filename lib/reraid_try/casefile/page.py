@@ -13,8 +13,8 @@ from .style import STYLE
 LEAST_UNSOUND = 20
 ABOUT = """This page says what one run of reraid-try looked at, tried and found. It only reads images. It does not choose: what is listed passed
 the tests that are named beside it."""
-SIGNS = """+ stands where a checker of file systems is content and none found fault, ++ where long files are whole besides, or the sums of all
-data are right. A set with + alone may be wrong: read files before you rely on it."""
+SIGNS = """++ stands where long files are whole, or the sums of all data are right, and no checker of file systems found fault; + where a checker
+alone is content, or where one sign is taken. A set with + alone may be wrong: read files before you rely on it."""
 PROVED = """Of the program reraid it is proved that a listing holds exactly the sets that pass, and that a written volume is exactly that of its
 set. The search and this page are made by a script that is tested and not proved."""
 NOT_KNOWN = """With what the program reraid was proved and built is not recorded where it was found. The search and this page are made by a script

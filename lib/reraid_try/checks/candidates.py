@@ -125,10 +125,14 @@ class Candidate:
         return len(self.trial.cures), self.trial.number, self.rank
 
     @property
+    def fits(self) -> int:
+        """How many more marks fit than do not."""
+        return sum(group.fits - group.misfits for group in self.groups)
+
+    @property
     def place(self) -> tuple[int, int, tuple[int, str, int], tuple[int, int, int]]:
         """What it is printed by: the sign, how many more marks fit than do not, the members, and the order of tests."""
-        fits = sum(group.fits - group.misfits for group in self.groups)
-        return -max(self.score, Score.KNOWN), -fits, self.word.simplicity, self.order
+        return -max(self.score, Score.KNOWN), -self.fits, self.word.simplicity, self.order
 
 
 def left_most(trial: Trial, plan: Plan, groups: Sequence[Held]) -> bool:

@@ -21,6 +21,7 @@ PLAIN = ("0", "plain", "none")
 CONTENT = "another set of these images, which contradicts it, has long whole files"
 BROKEN = "another set of these images, which contradicts it, has whole files, and of those in this one none is"
 UNSOUND = "parity holds in far fewer rows than with another set of these images, which has long whole files too"
+UNTOLD = "another set of these images, which contradicts it, has as much for itself: at most one of them is right"
 
 
 @dataclasses.dataclass(frozen=True)
@@ -99,15 +100,24 @@ def rivalled(it: Candidate, other: Candidate, same: Mapping[int, int]) -> str:
         return f"what is found in it begins behind its first {rows} rows of chunks, where the volume of another set begins"
     if other.whole is it and is_sounder(other, it):
         return f"{counted(it.unsound or 0, 'unsound row')}, and none {other.trial.loosened[-1]}, which is old or damaged there"
+    if other.whole is it and other.score >= it.score and other.found.files.whole > it.found.files.whole:
+        return f"{counted(it.unsound or 0, 'unsound row')}, and fewer files are whole than {other.trial.loosened[-1]}"
     broken = it.score is Score.CHECKED and it.found.files.found > 0 and not it.found.files.longest_of_all and other.found.files.longest_of_all > 0
-    if it is other or not (broken or other.score is Score.WHOLE) or not contradict(it, other, same):
+    if it is other or not (broken or other.score is Score.WHOLE or has_as_much(other, it)) or not contradict(it, other, same):
         return ""
     if other.score is not Score.WHOLE:
-        return BROKEN
+        return BROKEN if broken else UNTOLD
     if it.score is Score.CHECKED:
         return CONTENT
     bad = (it.unsound or 0) - (other.unsound or 0)
     return UNSOUND if bad > max(LEAST_BAD, it.hunt.evidence.filled // MOST_BAD) else ""
+
+
+def has_as_much(one: Candidate, other: Candidate) -> bool:
+    """Of two sets of which a checker alone is content the one has as many whole files, and as many marks that fit, as the other."""
+    if one.score is not Score.CHECKED or other.score is not Score.CHECKED:
+        return False
+    return one.found.files.whole >= other.found.files.whole and one.fits >= other.fits
 
 
 def rows_before(it: Candidate, other: Candidate, same: Mapping[int, int]) -> int:

@@ -11,8 +11,9 @@ from . import words
 from .report import Report
 
 HEAD = ("", "class", "set", "loosened", "fits", "volume")
-LAST = """reraid-try does not choose. These sets passed, by their sign and by how many marks fit. + stands where a checker is content and none found
-fault (it may be wrong: read files by name), ++ where long files are whole besides, or the sums of all data are right."""
+LAST = """reraid-try does not choose. These sets passed, by their sign and by how many marks fit. ++ stands where long files are whole, or the
+sums of all data are right, and no checker found fault; + where a checker alone is content, or one sign is taken (it may be wrong: read files
+by name)."""
 NONE = "no candidates"
 MANY = 24
 # Between two columns.

@@ -3,7 +3,7 @@ use Rattle.std.proofs.Common.{◌≡◌, ℕ, zero, suc, ◌<◌, ◌≤◌, Boo
 use Rattle.std.specs.List.{list_any}
 use Rattle.mark_kinds.specs.Table.{all_groups, is_group_asked, kinds_among, some_asked}
 use Rattle.mark_kinds.specs.declared.groups.GroupKind.{GroupKind}
-use Rattle.mark_kinds.specs.declared.groups.GroupKind.TheVariants.{Gpt, Ntfs, Xfs, Btrfs, Lvm, Ext, Xfs5, Btrfstree}
+use Rattle.mark_kinds.specs.declared.groups.GroupKind.TheVariants.{Gpt, Ntfs, Xfs, Btrfs, Lvm, Ext, Extinode, Xfs5, Btrfstree}
 
 or_first : (a b : Bool) → a ≡ true → (a || b) ≡ true
 or_first true b is = refl
@@ -26,8 +26,9 @@ any_of_all p Xfs is = any_at p all_groups 2 Gpt (omega arith) is
 any_of_all p Btrfs is = any_at p all_groups 3 Gpt (omega arith) is
 any_of_all p Lvm is = any_at p all_groups 4 Gpt (omega arith) is
 any_of_all p Ext is = any_at p all_groups 5 Gpt (omega arith) is
-any_of_all p Xfs5 is = any_at p all_groups 6 Gpt (omega arith) is
-any_of_all p Btrfstree is = any_at p all_groups 7 Gpt (omega arith) is
+any_of_all p Extinode is = any_at p all_groups 6 Gpt (omega arith) is
+any_of_all p Xfs5 is = any_at p all_groups 7 Gpt (omega arith) is
+any_of_all p Btrfstree is = any_at p all_groups 8 Gpt (omega arith) is
 
 first_asked : (kind : GroupKind) (kinds : List GroupKind) → is_group_asked (kinds_among (kind ∷ kinds)) kind ≡ true
 first_asked Gpt kinds = refl
@@ -36,6 +37,7 @@ first_asked Xfs kinds = refl
 first_asked Btrfs kinds = refl
 first_asked Lvm kinds = refl
 first_asked Ext kinds = refl
+first_asked Extinode kinds = refl
 first_asked Xfs5 kinds = refl
 first_asked Btrfstree kinds = refl
 

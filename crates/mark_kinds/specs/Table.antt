@@ -4,10 +4,10 @@ use Rattle.std.specs.List.{list_any}
 use Rattle.mark_kinds.specs.declared.groups.Begin.{Begin}
 use Rattle.mark_kinds.specs.declared.groups.Begin.TheVariants.{WithVolume, AtOrigins}
 use Rattle.mark_kinds.specs.declared.groups.GroupKind.{GroupKind}
-use Rattle.mark_kinds.specs.declared.groups.GroupKind.TheVariants.{Gpt as GptGroup, Ntfs, Xfs, Btrfs as BtrfsGroup, Lvm as LvmGroup, Ext as ExtGroup, Xfs5 as Xfs5Group, Btrfstree as BtrfstreeGroup}
+use Rattle.mark_kinds.specs.declared.groups.GroupKind.TheVariants.{Gpt as GptGroup, Ntfs, Xfs, Btrfs as BtrfsGroup, Lvm as LvmGroup, Ext as ExtGroup, Extinode as ExtinodeGroup, Xfs5 as Xfs5Group, Btrfstree as BtrfstreeGroup}
 use Rattle.mark_kinds.specs.declared.looking.Kinds.{Kinds}
 use Rattle.mark_kinds.specs.declared.sectors.Kind.{Kind}
-use Rattle.mark_kinds.specs.declared.sectors.Kind.TheVariants.{Gpt, Boot, FileRecord, Super, Agf, Agi, Btrfs, Lvm, Ext, Xfs5, Btrfstree}
+use Rattle.mark_kinds.specs.declared.sectors.Kind.TheVariants.{Gpt, Boot, FileRecord, Super, Agf, Agi, Btrfs, Lvm, Ext, Extinode, Xfs5, Btrfstree}
 
 -- what holds of all groups of a kind: its place among the kinds of groups, which is the order in which groups stand
 -- in plans, its name, where such groups begin on the volume, and how many of them a plan may have
@@ -25,8 +25,9 @@ group_row Xfs = record { place = 2; name = codes "xfs"; begin = AtOrigins; most 
 group_row BtrfsGroup = record { place = 3; name = codes "btrfs"; begin = AtOrigins; most = 32 }
 group_row LvmGroup = record { place = 4; name = codes "lvm"; begin = AtOrigins; most = 32 }
 group_row ExtGroup = record { place = 5; name = codes "ext"; begin = AtOrigins; most = 32 }
-group_row Xfs5Group = record { place = 6; name = codes "xfs5"; begin = AtOrigins; most = 32 }
-group_row BtrfstreeGroup = record { place = 7; name = codes "btrfstree"; begin = AtOrigins; most = 32 }
+group_row ExtinodeGroup = record { place = 6; name = codes "extinode"; begin = AtOrigins; most = 32 }
+group_row Xfs5Group = record { place = 7; name = codes "xfs5"; begin = AtOrigins; most = 32 }
+group_row BtrfstreeGroup = record { place = 8; name = codes "btrfstree"; begin = AtOrigins; most = 32 }
 
 -- what holds of all landmark sectors of a kind: its place among these kinds, its name, and the kind of groups to
 -- which they belong
@@ -45,8 +46,9 @@ kind_row Agi = record { place = 5; name = codes "agi"; group = Xfs }
 kind_row Btrfs = record { place = 6; name = codes "btrfs"; group = BtrfsGroup }
 kind_row Lvm = record { place = 7; name = codes "lvm"; group = LvmGroup }
 kind_row Ext = record { place = 8; name = codes "ext"; group = ExtGroup }
-kind_row Xfs5 = record { place = 9; name = codes "xfs5"; group = Xfs5Group }
-kind_row Btrfstree = record { place = 10; name = codes "btrfstree"; group = BtrfstreeGroup }
+kind_row Extinode = record { place = 9; name = codes "extinode"; group = ExtinodeGroup }
+kind_row Xfs5 = record { place = 10; name = codes "xfs5"; group = Xfs5Group }
+kind_row Btrfstree = record { place = 11; name = codes "btrfstree"; group = BtrfstreeGroup }
 
 -- columns of the table
 abbrev pub group_place : GroupKind → ℕ
@@ -63,7 +65,7 @@ group_of kind = (kind_row kind).group
 
 -- all kinds of groups, in their order
 abbrev pub all_groups : List GroupKind
-all_groups = GptGroup ∷ Ntfs ∷ Xfs ∷ BtrfsGroup ∷ LvmGroup ∷ ExtGroup ∷ Xfs5Group ∷ BtrfstreeGroup ∷ []
+all_groups = GptGroup ∷ Ntfs ∷ Xfs ∷ BtrfsGroup ∷ LvmGroup ∷ ExtGroup ∷ ExtinodeGroup ∷ Xfs5Group ∷ BtrfstreeGroup ∷ []
 
 abbrev pub is_same_group : GroupKind → GroupKind → Bool
 is_same_group kind other = group_place kind == group_place other
@@ -72,9 +74,9 @@ is_same_group kind other = group_place kind == group_place other
 abbrev pub has_group : GroupKind → List GroupKind → Bool
 has_group kind kinds = list_any (is_same_group kind) kinds
 
--- which kinds are looked for: all but ext, xfs5 and btrfstree where none is named, or those among others
+-- which kinds are looked for: all but ext, extinode, xfs5 and btrfstree where none is named, or those among others
 abbrev pub usual_kinds : Kinds
-usual_kinds = record { gpt = true; ntfs = true; xfs = true; btrfs = true; lvm = true; ext = false; xfs5 = false; btrfstree = false }
+usual_kinds = record { gpt = true; ntfs = true; xfs = true; btrfs = true; lvm = true; ext = false; extinode = false; xfs5 = false; btrfstree = false }
 
 abbrev pub kinds_among : List GroupKind → Kinds
 kinds_among kinds = record {
@@ -84,6 +86,7 @@ kinds_among kinds = record {
   btrfs = has_group BtrfsGroup kinds;
   lvm = has_group LvmGroup kinds;
   ext = has_group ExtGroup kinds;
+  extinode = has_group ExtinodeGroup kinds;
   xfs5 = has_group Xfs5Group kinds;
   btrfstree = has_group BtrfstreeGroup kinds;
 }
@@ -96,6 +99,7 @@ is_group_asked kinds Xfs = kinds.xfs
 is_group_asked kinds BtrfsGroup = kinds.btrfs
 is_group_asked kinds LvmGroup = kinds.lvm
 is_group_asked kinds ExtGroup = kinds.ext
+is_group_asked kinds ExtinodeGroup = kinds.extinode
 is_group_asked kinds Xfs5Group = kinds.xfs5
 is_group_asked kinds BtrfstreeGroup = kinds.btrfstree
 

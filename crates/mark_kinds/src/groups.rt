@@ -19,6 +19,8 @@ pub enum GroupKind {
     Lvm,
     /// An ext2, ext3 or ext4 file system.
     Ext,
+    /// The inodes of an ext4 file system with checksums.
+    Extinode,
     /// The inodes of an XFS file system of version 5.
     Xfs5,
     /// The tree blocks of a btrfs file system.
@@ -26,7 +28,7 @@ pub enum GroupKind {
 }
 
 /// How many kinds of groups there are.
-pub const GROUP_COUNT: usize = 8;
+pub const GROUP_COUNT: usize = 9;
 
 /// All kinds of groups, in the order in which they stand in plans and lists.
 pub const GROUPS: [GroupKind; GROUP_COUNT] = [
@@ -36,6 +38,7 @@ pub const GROUPS: [GroupKind; GROUP_COUNT] = [
     GroupKind::Btrfs,
     GroupKind::Lvm,
     GroupKind::Ext,
+    GroupKind::Extinode,
     GroupKind::Xfs5,
     GroupKind::Btrfstree,
 ];
@@ -100,8 +103,9 @@ impl GroupKind {
             GroupKind::Btrfs => file_system(3, "btrfs"),
             GroupKind::Lvm => file_system(4, "lvm"),
             GroupKind::Ext => file_system(5, "ext"),
-            GroupKind::Xfs5 => file_system(6, "xfs5"),
-            GroupKind::Btrfstree => file_system(7, "btrfstree"),
+            GroupKind::Extinode => file_system(6, "extinode"),
+            GroupKind::Xfs5 => file_system(7, "xfs5"),
+            GroupKind::Btrfstree => file_system(8, "btrfstree"),
         }
     }
 

@@ -19,6 +19,8 @@ pub struct Kinds {
     pub lvm: bool,
     /// ext2, ext3 and ext4 file systems.
     pub ext: bool,
+    /// Inodes of ext4 file systems with checksums.
+    pub extinode: bool,
     /// Inodes of XFS file systems of version 5.
     pub xfs5: bool,
     /// Tree blocks of btrfs file systems.
@@ -38,7 +40,7 @@ pub struct DropAt {
 }
 
 impl Kinds {
-    /// The kinds that are looked for where none is named: all but ext, xfs5 and btrfstree.
+    /// The kinds that are looked for where none is named: all but ext, extinode, xfs5 and btrfstree.
     pub fn usual() -> Kinds
         ensures { result ≡ usual_kinds }
     {
@@ -49,6 +51,7 @@ impl Kinds {
             btrfs: true,
             lvm: true,
             ext: false,
+            extinode: false,
             xfs5: false,
             btrfstree: false,
         }
@@ -65,6 +68,7 @@ impl Kinds {
             btrfs: has_group(kinds, GroupKind::Btrfs),
             lvm: has_group(kinds, GroupKind::Lvm),
             ext: has_group(kinds, GroupKind::Ext),
+            extinode: has_group(kinds, GroupKind::Extinode),
             xfs5: has_group(kinds, GroupKind::Xfs5),
             btrfstree: has_group(kinds, GroupKind::Btrfstree),
         }
@@ -81,6 +85,7 @@ impl Kinds {
             GroupKind::Btrfs => self.btrfs,
             GroupKind::Lvm => self.lvm,
             GroupKind::Ext => self.ext,
+            GroupKind::Extinode => self.extinode,
             GroupKind::Xfs5 => self.xfs5,
             GroupKind::Btrfstree => self.btrfstree,
         }

@@ -25,6 +25,8 @@ pub enum Kind {
     Lvm,
     /// A superblock of ext2, ext3 or ext4 in a later block group.
     Ext,
+    /// Two inodes of ext4 beside each other.
+    Extinode,
     /// An inode of an XFS file system of version 5.
     Xfs5,
     /// A tree block of btrfs.
@@ -32,7 +34,7 @@ pub enum Kind {
 }
 
 /// How many kinds of landmark sectors there are.
-pub const KIND_COUNT: usize = 11;
+pub const KIND_COUNT: usize = 12;
 
 /// All kinds of landmark sectors, in their order.
 pub const KINDS: [Kind; KIND_COUNT] = [
@@ -45,6 +47,7 @@ pub const KINDS: [Kind; KIND_COUNT] = [
     Kind::Btrfs,
     Kind::Lvm,
     Kind::Ext,
+    Kind::Extinode,
     Kind::Xfs5,
     Kind::Btrfstree,
 ];
@@ -77,8 +80,9 @@ impl Kind {
             Kind::Btrfs => row_of(6, "btrfs", GroupKind::Btrfs),
             Kind::Lvm => row_of(7, "lvm", GroupKind::Lvm),
             Kind::Ext => row_of(8, "ext", GroupKind::Ext),
-            Kind::Xfs5 => row_of(9, "xfs5", GroupKind::Xfs5),
-            Kind::Btrfstree => row_of(10, "btrfstree", GroupKind::Btrfstree),
+            Kind::Extinode => row_of(9, "extinode", GroupKind::Extinode),
+            Kind::Xfs5 => row_of(10, "xfs5", GroupKind::Xfs5),
+            Kind::Btrfstree => row_of(11, "btrfstree", GroupKind::Btrfstree),
         }
     }
 

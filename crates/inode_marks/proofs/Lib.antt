@@ -1,3 +1,4 @@
 pub mod Pieces
 pub mod Limits
 pub mod Numbers
+pub mod Beside

@@ -50,7 +50,7 @@ covered_bytes s at h =
     (bytes_append (0 ∷ 0 ∷ []) (slice_range s (at + 132) (at + 256)) two_zeros (bytes_range s (at + 132) (at + 256) h)))))
 
 -- a number is what the register with it added is, with the seed taken away
-taken_away : (a b : ℕ) → bit_xor a (bit_xor a b) ≡ b
+pub taken_away : (a b : ℕ) → bit_xor a (bit_xor a b) ≡ b
 taken_away a b = xor_comm a (bit_xor a b) ∙ ap (λ (x : ℕ). bit_xor x a) (xor_comm a b) ∙ xor_twice b a
 
 -- the number that is told makes the checksum right
@@ -81,7 +81,7 @@ told_is_only seed s at n hs hn bytes number e =
     sym (taken_away seed n) ∙ ap (bit_xor seed) added
 
 -- the bytes of a number
-number_bytes : (n : ℕ) → AreBytes (to_le_bytes w32 n)
+pub number_bytes : (n : ℕ) → AreBytes (to_le_bytes w32 n)
 number_bytes n zero = omega arith
 number_bytes n (suc zero) = omega arith
 number_bytes n (suc (suc zero)) = omega arith

@@ -1,9 +1,11 @@
 -- Inodes of ext4 with checksums, two of 256 bytes in a sector of 512 (Linux kernel, ext4 Data Structures and Algorithms:
 -- Inode Table, Checksums). Numbers are little-endian. `at` is the byte of the sector at which an inode begins: 0 or 256.
-use Rattle.std.specs.Prelude.{ℕ, ◌+◌, ◌*◌, ◌%◌, List, [], ◌∷◌, ◌++◌, Bool, ◌&&◌, ◌==◌, nat_le, nat_lt, Option, Some, None, if◌then◌else◌, bit_xor, slice_range}
+use Rattle.std.specs.Prelude.{ℕ, ◌+◌, ◌-◌, ◌*◌, ◌^◌, ◌%◌, List, [], ◌∷◌, ◌++◌, Bool, ◌&&◌, ◌==◌, nat_le, nat_lt, Option, Some, None, if◌then◌else◌, bit_xor, slice_range}
 use Rattle.std.specs.Int.{to_le_bytes, w32}
+use Rattle.std.specs.List.{list_any, range_with_len}
 use Rattle.sector_fields.specs.Fields.{u16_le}
 use Rattle.crc32c.specs.Register.{register_after, register_before}
+use Rattle.inode_marks.specs.declared.inode.InodePair.{InodePair}
 
 -- the checksum that an inode keeps
 unfoldable pub stored_checksum : List ℕ → ℕ → ℕ
@@ -46,3 +48,23 @@ told_number seed s at =
 unfoldable pub inode_pair : ℕ → ℕ → List ℕ → Option ℕ
 inode_pair seed inodes s =
     if is_pair seed inodes s (told_number seed s 0) then Some (told_number seed s 0) else None
+
+-- ones alone in binary, from 6 to 32 of them
+unfoldable pub are_ones : ℕ → Bool
+are_ones difference = list_any (λ k. difference == 2 ^ k - 1) (range_with_len 6 27)
+
+-- two inodes of a sector that have numbers n and n + 1 in some file system, n + 1 a multiple of 32. With a seed of 0 the numbers that
+-- they tell are these with the seed of their file system added, so they differ as these do: in the lowest bits alone, of which n has
+-- ones after one 0, and n + 1 zeros after one 1
+unfoldable pub are_beside : List ℕ → Bool
+are_beside s = has_extra s 0 && has_extra s 256 && are_ones (bit_xor (told_number 0 s 0) (told_number 0 s 256))
+
+-- the numbers that they tell with a seed of 0, if the sector holds such two
+unfoldable pub any_pair : List ℕ → Option InodePair
+any_pair s = if are_beside s then Some (record { first = told_number 0 s 0; second = told_number 0 s 256 }) else None
+
+-- the number of the first in the file system whose checksums begin with the seed and which has `inodes`, if they are two of it
+unfoldable pub pair_number : ℕ → ℕ → InodePair → Option ℕ
+pair_number seed inodes pair =
+    if (bit_xor seed pair.first % 2 == 1) && nat_lt (bit_xor seed pair.first) inodes && (bit_xor seed pair.second == bit_xor seed pair.first + 1)
+    then Some (bit_xor seed pair.first) else None

@@ -1,7 +1,9 @@
 -- Where the inodes of an ext4 with checksums lie (Linux kernel, ext4 Data Structures and Algorithms: Super Block, Group Descriptors,
 -- Checksums). Numbers are little-endian. A superblock has 1,024 bytes: two sectors, `first` and `second`.
-use Rattle.std.specs.Prelude.{ℕ, ◌+◌, ◌*◌, ◌/◌, ◌%◌, ◌-◌, ◌^◌, List, [], ◌∷◌, ◌++◌, Bool, ◌&&◌, ◌||◌, ◌==◌, nat_le, nat_lt, Option, Some, None, if◌then◌else◌, slice_index, slice_range}
+use Rattle.std.specs.Prelude.{ℕ, ◌+◌, ◌*◌, ◌/◌, ◌%◌, ◌-◌, ◌^◌, List, [], ◌∷◌, ◌++◌, Bool, not, ◌&&◌, ◌||◌, ◌==◌, nat_le, nat_lt, Option, Some, None, if◌then◌else◌, slice_index, slice_range}
 use Rattle.std.specs.Int.{to_le_bytes, w32}
+use Rattle.std.specs.List.{list_all, range_with_len}
+use Rattle.std.specs.Option.{option_map}
 use Rattle.sector_fields.specs.Fields.{u16_le, u32_le, uuid_at}
 use Rattle.crc32c.specs.Register.{register_after}
 use Rattle.inode_marks.specs.declared.tables.InodeTables.{InodeTables}
@@ -107,6 +109,38 @@ inode_table tables group s at = if is_descriptor tables group s at then Some (ta
 unfoldable pub inode_sector : InodeTables → ℕ → ℕ → ℕ
 inode_sector tables block number = block * (tables.block / 512) + index_of tables number * 256 / 512
 
--- an inode counts as a mark where it begins a stretch of 64 KiB of its group's table: one of 256
-unfoldable pub is_mark : InodeTables → ℕ → Bool
-is_mark tables number = index_of tables number % 256 == 0
+-- a group has inodes of the file system
+unfoldable pub has_group : InodeTables → ℕ → Bool
+has_group tables group = nat_lt (group * tables.group_inodes) tables.inodes
+
+-- how many descriptors a sector has
+unfoldable pub sector_groups : InodeTables → ℕ
+sector_groups tables = 512 / tables.descriptor
+
+-- a sector has the descriptors of the groups from the first on, as far as the file system has them: a checksum has 16 bits, those of
+-- a sector together 128 or more
+unfoldable pub are_descriptors : InodeTables → ℕ → List ℕ → Bool
+are_descriptors tables first s =
+    list_all (λ i. not (has_group tables (first + i)) || is_descriptor tables (first + i) s (i * tables.descriptor)) (range_with_len 0 (sector_groups tables))
+
+-- a sector of the 256 from a copy of a superblock on
+abbrev pub copied_sector : List ℕ → ℕ → List ℕ
+copied_sector copy sector = slice_range copy (512 * sector) (512 * sector + 512)
+
+-- what the copy says, by its two sectors
+unfoldable pub copied_tables : List ℕ → Option InodeTables
+copied_tables copy = inode_tables (copied_sector copy 0) (copied_sector copy 1)
+
+-- the sector behind a copy that has the descriptor of a group: descriptors begin with the next block. No sector past the 128th of
+-- them is looked at
+unfoldable pub descriptors_behind : InodeTables → List ℕ → ℕ → List ℕ
+descriptors_behind tables copy group = copied_sector copy (tables.block / 512 + group / sector_groups tables)
+
+-- where an inode lies by the descriptors behind a copy, if all of the sector that has its group's are whole
+unfoldable pub copied_place : InodeTables → List ℕ → ℕ → Option ℕ
+copied_place tables copy number =
+    if nat_lt (group_of tables number / sector_groups tables) 128
+    && are_descriptors tables (group_of tables number - group_of tables number % sector_groups tables) (descriptors_behind tables copy (group_of tables number))
+    then option_map (λ block. inode_sector tables block number)
+    (inode_table tables (group_of tables number) (descriptors_behind tables copy (group_of tables number)) (group_of tables number % sector_groups tables * tables.descriptor))
+    else None

@@ -1,9 +1,9 @@
 //! Where inodes lie: the fields of a superblock, and the descriptors of groups.
 
-ghost use Rattle.std.specs.Prelude.{◌≡◌, ◌+◌, ◌<◌, ◌≤◌, ◌^◌, ◌++◌, [], ◌∷◌, IfSome, IsTrue, slice_range};
+ghost use Rattle.std.specs.Prelude.{◌≡◌, ◌+◌, ◌*◌, ◌/◌, ◌<◌, ◌≤◌, ◌^◌, ◌++◌, [], ◌∷◌, IfSome, IsTrue, slice_range};
 ghost use Rattle.crc32c.specs.Register.{register_after};
 ghost use Rattle.std.specs.Int.{to_le_bytes, w32};
-ghost use Rattle.inode_marks.specs.Tables.{has_inode_form, has_one_table, is_whole, has_feature, descriptor_byte, descriptor_bytes, descriptor_register, group_of, has_tables, index_of, inode_sector, inode_table, inode_tables, is_descriptor, is_mark, is_sound, seed_of, table_block, tables_of};
+ghost use Rattle.inode_marks.specs.Tables.{has_inode_form, has_one_table, is_whole, has_feature, are_descriptors, copied_place, copied_sector, copied_tables, descriptor_byte, descriptor_bytes, descriptor_register, descriptors_behind, group_of, has_group, has_tables, index_of, inode_sector, inode_table, inode_tables, is_descriptor, is_sound, sector_groups, seed_of, table_block, tables_of};
 
 use sector_fields::{SECTOR, u16_le, u32_le, uuid_at};
 use uuid::Uuid;
@@ -34,6 +34,16 @@ const SUPERBLOCK: u32 = 1024;
 
 /// The blocks that a table of inodes may begin with are below this.
 const BLOCK_LIMIT: u64 = 1 << 47;
+
+/// The sectors from a copy of a superblock on that have its descriptors: a block of 65,536 bytes at most, and
+/// `TABLE_SECTORS`.
+pub const COPY_SECTORS: usize = 256;
+
+/// Their bytes.
+pub const COPY_BYTES: usize = COPY_SECTORS * SECTOR;
+
+/// The sectors of descriptors that are looked at.
+const TABLE_SECTORS: u32 = 128;
 
 /// What a superblock says of where inodes lie, and of their checksums.
 #[derive(Clone, Copy, PartialEq, Eq)]
@@ -71,21 +81,36 @@ pub fn read_tables(first: &[u8; SECTOR], second: &[u8; SECTOR]) -> Option<InodeT
 
 /// The block of the volume at which the inodes of the group begin, by its descriptor at a byte of the sector. None where
 /// the checksum is not that of this group's descriptor, or the block is 2^47 or later.
-#[tactic(auto, unfolding(crate::specs::Tables::inode_table, crate::specs::Tables::is_descriptor))]
+#[tactic(auto, unfolding(crate::specs::Tables::inode_table), using(crate::proofs::Limits::block_near))]
 pub fn read_table(tables: &InodeTables, group: u32, sector: &[u8; SECTOR], at: usize) -> Option<u64>
     requires sound { IsTrue (is_sound tables.now) }
-    requires room { at + 64 ≤ SECTOR }
+    requires room { at + tables.now.descriptor ≤ SECTOR }
     ensures table { result ≡ inode_table tables.now group sector.now at }
     ensures within { IfSome result (λ block. block < 2 ^ 47) }
 {
-    let block = table_block(tables, sector, at);
-    if descriptor_register(tables, group, sector, at) % 65_536 == u16_le(sector, at + 30) as u32
-        && block < BLOCK_LIMIT
-    {
-        Some(block)
+    if is_descriptor(tables, group, sector, at) {
+        Some(table_block(tables, sector, at))
     } else {
         None
     }
+}
+
+/// What the copy of a superblock says that begins the sectors, as [`read_tables`] reads it.
+#[tactic(auto, unfolding(crate::specs::Tables::copied_tables))]
+pub fn read_copy(copy: &[u8; COPY_BYTES]) -> Option<InodeTables>
+    ensures tables { result ≡ copied_tables copy.now }
+    ensures within { IfSome result (λ x. IsTrue (is_sound x)) }
+{
+    read_tables(copied_sector(copy, 0), copied_sector(copy, 1))
+}
+
+/// One of the sectors from a copy on.
+fn copied_sector(copy: &[u8; COPY_BYTES], sector: usize) -> &[u8; SECTOR]
+    requires { sector < 256 }
+    ensures { result.now ≡ copied_sector copy.now sector }
+{
+    let at = SECTOR * sector;
+    copy[at..at + SECTOR].as_array().unwrap()
 }
 
 impl InodeTables {
@@ -132,15 +157,85 @@ impl InodeTables {
             + self.index(number) as u64 * 256 / SECTOR as u64
     }
 
-    /// Whether an inode begins a stretch of 64 KiB of its group's table: such an inode counts as a mark.
-    #[tactic(auto, unfolding(crate::specs::Tables::is_sound, crate::specs::Tables::is_mark))]
-    pub fn is_mark(&self, number: u32) -> bool
+    /// The sector of the volume at which an inode lies, by the descriptors behind the copy of the superblock with which
+    /// the sectors begin. None where the descriptor of its group stands in none of the first `TABLE_SECTORS`; or where
+    /// in the sector that has it one is not whole, of the groups that have inodes: a checksum has 16 bits alone.
+    #[tactic(auto, unfolding(crate::specs::Tables::copied_place))]
+    pub fn copied_place(&self, copy: &[u8; COPY_BYTES], number: u32) -> Option<u64>
         requires sound { IsTrue (is_sound self.now) }
         requires numbered { 1 ≤ number }
-        ensures { result ≡ is_mark self.now number }
+        ensures place { result ≡ copied_place self.now copy.now number }
+        ensures within { IfSome result (λ sector. sector < 2 ^ 55) }
     {
-        self.index(number) % 256 == 0
+        let group = self.group(number);
+        let groups = self.sector_groups();
+        if group / groups >= TABLE_SECTORS {
+            return None;
+        }
+        let sector = self.descriptors_behind(copy, group);
+        if !self.are_descriptors(group - group % groups, sector) {
+            return None;
+        }
+        let at = (group % groups) as usize * self.descriptor as usize;
+        let table = read_table(self, group, sector, at)?;
+        Some(self.inode_sector(table, number))
     }
+
+    /// The sector behind a copy of the superblock that has the descriptor of a group.
+    #[tactic(auto, unfolding(crate::specs::Tables::descriptors_behind), using(crate::proofs::Limits::block_most))]
+    fn descriptors_behind<'a>(&self, copy: &'a [u8; COPY_BYTES], group: u32) -> &'a [u8; SECTOR]
+        requires sound { IsTrue (is_sound self.now) }
+        requires near { group / sector_groups self.now < 128 }
+        ensures { result.now ≡ descriptors_behind self.now copy.now group }
+    {
+        let sector = self.block / SECTOR as u32 + group / self.sector_groups();
+        copied_sector(copy, sector as usize)
+    }
+
+    /// How many descriptors a sector has.
+    #[tactic(auto, unfolding(crate::specs::Tables::is_sound, crate::specs::Tables::sector_groups))]
+    fn sector_groups(&self) -> u32
+        requires { IsTrue (is_sound self.now) }
+        ensures groups { result ≡ sector_groups self.now }
+        ensures whole { result * self.now.descriptor ≡ 512 }
+    {
+        SECTOR as u32 / self.descriptor as u32
+    }
+
+    /// Whether a sector has the descriptors of the groups from the first on, as far as those have inodes.
+    #[tactic(auto, using(crate::proofs::Limits::descriptors_start, crate::proofs::Limits::descriptor_passed, crate::proofs::Limits::descriptor_fails, crate::proofs::Limits::descriptors_end))]
+    fn are_descriptors(&self, first: u32, sector: &[u8; SECTOR]) -> bool
+        requires sound { IsTrue (is_sound self.now) }
+        requires near { first < 2 ^ 31 }
+        ensures { result ≡ are_descriptors self.now first sector.now }
+    {
+        for place in 0..self.sector_groups() {
+            let at = place as usize * self.descriptor as usize;
+            if self.has_group(first + place) && !is_descriptor(self, first + place, sector, at) {
+                return false;
+            }
+        }
+        true
+    }
+
+    /// Whether a group has inodes.
+    #[tactic(auto, unfolding(crate::specs::Tables::has_group))]
+    fn has_group(&self, group: u32) -> bool
+        ensures { result ≡ has_group self.now group }
+    {
+        group as u64 * (self.group_inodes as u64) < self.inodes as u64
+    }
+}
+
+/// Whether a descriptor is that of the group.
+#[tactic(auto, unfolding(crate::specs::Tables::is_descriptor), using(crate::proofs::Limits::descriptor_least))]
+fn is_descriptor(tables: &InodeTables, group: u32, sector: &[u8; SECTOR], at: usize) -> bool
+    requires sound { IsTrue (is_sound tables.now) }
+    requires room { at + tables.now.descriptor ≤ SECTOR }
+    ensures { result ≡ is_descriptor tables.now group sector.now at }
+{
+    descriptor_register(tables, group, sector, at) % 65_536 == u16_le(sector, at + 30) as u32
+        && table_block(tables, sector, at) < BLOCK_LIMIT
 }
 
 /// Whether the two sectors are a superblock that tells where inodes lie.
@@ -225,9 +320,10 @@ fn tables_of(first: &[u8; SECTOR], second: &[u8; SECTOR]) -> InodeTables
 }
 
 /// The block that a descriptor names, whatever its checksum.
-#[tactic(auto, unfolding(crate::specs::Tables::table_block))]
+#[tactic(auto, unfolding(crate::specs::Tables::table_block), using(crate::proofs::Limits::descriptor_least))]
 fn table_block(tables: &InodeTables, sector: &[u8; SECTOR], at: usize) -> u64
-    requires { at + 64 ≤ SECTOR }
+    requires sound { IsTrue (is_sound tables.now) }
+    requires room { at + tables.now.descriptor ≤ SECTOR }
     ensures { result ≡ table_block tables.now sector.now at }
 {
     let high = if tables.descriptor == 64 {
@@ -242,7 +338,7 @@ fn table_block(tables: &InodeTables, sector: &[u8; SECTOR], at: usize) -> u64
 #[tactic(auto, unfolding(crate::specs::Tables::descriptor_register), using(crate::proofs::Pieces::four_pieces, crate::proofs::Limits::descriptor_least, crate::proofs::Limits::descriptor_most))]
 fn descriptor_register(tables: &InodeTables, group: u32, sector: &[u8; SECTOR], at: usize) -> u32
     requires sound { IsTrue (is_sound tables.now) }
-    requires room { at + 64 ≤ SECTOR }
+    requires room { at + tables.now.descriptor ≤ SECTOR }
     ensures { result ≡ descriptor_register tables.now group sector.now at }
 {
     let number = crc32c::after(tables.seed, &group.to_le_bytes());

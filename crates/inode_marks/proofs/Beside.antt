@@ -155,10 +155,13 @@ some_beside s are h0 h1 bytes =
     let seed = bit_xor a n in
     let small : seed < 2 ^ 32 = xor_lt 32 a n h0 (omega arith) in
     let first : told_number seed s 0 ≡ n = with_seed seed s 0 ∙ xor_comm seed a ∙ taken_away a n in
-    let second : told_number seed s 256 ≡ n + 1 = with_seed seed s 256 ∙ ap (λ (x : ℕ). bit_xor x b) (xor_comm a n) ∙ xor_assoc n a b ∙ next in
-    (seed, n, omega (arith, many k, after),
-    sym (inode_by_number seed s 0 n small (omega arith) (omega (arith, first)) bytes extra0) ∙ eq-eqb (told_number seed s 0) n first,
-    sym (inode_by_number seed s 256 (n + 1) small (omega arith) (omega (arith, second)) bytes extra1) ∙ eq-eqb (told_number seed s 256) (n + 1) second)
+    let second : told_number seed s 256 ≡ n + 1 = with_seed seed s 256 ∙ ap (λ (x : ℕ). bit_xor x b) (xor_comm a n) ∙ xor_assoc n a b ∙ next in (
+      seed,
+      n,
+      omega (arith, many k, after),
+      sym (inode_by_number seed s 0 n small (omega arith) (omega (arith, first)) bytes extra0) ∙ eq-eqb (told_number seed s 0) n first,
+      sym (inode_by_number seed s 256 (n + 1) small (omega arith) (omega (arith, second)) bytes extra1) ∙ eq-eqb (told_number seed s 256) (n + 1) second,
+    )
 
 -- and in a file system they are the two of it that the sector holds
 pub same_number : (s : List ℕ) (seed inodes : ℕ) → are_beside s ≡ true → seed < 2 ^ 32 → inodes < 2 ^ 32 → told_number 0 s 0 < 2 ^ 32 → told_number 0 s 256 < 2 ^ 32 → AreBytes s →

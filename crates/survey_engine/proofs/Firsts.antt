@@ -1,5 +1,5 @@
 -- Hints, one after the other.
-use Rattle.std.proofs.Common.{◌≡◌, ℕ, zero, suc, ◌+◌, ◌-◌, ◌*◌, ◌^◌, ◌==◌, ◌<◌, ◌≤◌, List, [], ◌∷◌, ◌++◌, length, map, take, get_or, slice_index, slice_get, slice_range, Bool, true, false, cond, refl, sym, ap, subst, IsSomeAnd, ◌∙◌, arith, All, IfSome, Option, Some, None}
+use Rattle.std.proofs.Common.{◌≡◌, ℕ, zero, suc, ◌+◌, ◌*◌, ◌^◌, ◌==◌, ◌<◌, ◌≤◌, List, [], ◌∷◌, ◌++◌, length, map, take, get_or, slice_index, slice_get, slice_range, Bool, true, false, cond, refl, sym, ap, subst, IsSomeAnd, ◌∙◌, arith, All, IfSome, Option, Some, None}
 use Rattle.std.specs.List.{filter_map, flat_map, cons_option}
 use Rattle.std.proofs.lemmas.List.{append-nil, length-map, take_all, take_more}
 use Rattle.std.proofs.lemmas.List.Concat.{flat_map-append}
@@ -23,7 +23,7 @@ use Rattle.survey_engine.specs.Landmarks.{kind_of}
 use Rattle.landmark_rules.specs.Groups.{kind_place}
 use Rattle.survey_engine.specs.declared.landmark.GptTable.{GptTable}
 use Rattle.survey_engine.specs.declared.landmark.Landmark.{Landmark}
-use Rattle.survey_engine.specs.declared.landmark.Landmark.TheVariants.{Gpt, Boot, FileRecord, Super, Super5, Agf, Agi, Btrfs, Lvm, Ext, Inode, Tree}
+use Rattle.survey_engine.specs.declared.landmark.Landmark.TheVariants.{Gpt, Boot, FileRecord, Super, Super5, Agf, Agi, Btrfs, Lvm, Ext, Inode, Tree, Inodes, Placed}
 use Rattle.survey_engine.specs.declared.sighting.Sighting.{Sighting}
 use Rattle.survey_engine.proofs.Numbers.{with_more, with_none}
 
@@ -75,6 +75,8 @@ not_gpt (Lvm n) sector long bytes never = refl
 not_gpt (Ext x) sector long bytes never = refl
 not_gpt (Inode i) sector long bytes never = refl
 not_gpt (Tree t) sector long bytes never = refl
+not_gpt (Inodes pair) sector long bytes never = refl
+not_gpt (Placed pair place) sector long bytes never = refl
 
 -- none but a header has hints
 pub no_header : (lengths : List ℕ) (images : List (List ℕ)) (s : Sighting) → ((h : GptTable) → s.landmark ≡ Gpt h → ⊥) → hints_at lengths images s ≡ []
@@ -219,6 +221,8 @@ followed_few (Lvm n) sector long = omega arith
 followed_few (Ext x) sector long = omega arith
 followed_few (Inode i) sector long = omega arith
 followed_few (Tree t) sector long = omega arith
+followed_few (Inodes pair) sector long = omega arith
+followed_few (Placed pair place) sector long = omega arith
 
 followed_are_few : (lengths : List ℕ) (found : List Sighting) → count_by (is_followed lengths) found ≤ count_by (is_same_kind GptKind) found
 unfolding is_followed

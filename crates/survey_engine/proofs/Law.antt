@@ -259,7 +259,7 @@ are_from lengths asked found are n (kind ∷ kinds) rise =
 
 all_rise : Rise 0 all_groups
 unfolding Rise
-all_rise = (omega arith, (omega arith, (omega arith, (omega arith, (omega arith, (omega arith, (omega arith, (omega arith, tt))))))))
+all_rise = (omega arith, (omega arith, (omega arith, (omega arith, (omega arith, (omega arith, (omega arith, (omega arith, (omega arith, tt)))))))))
 
 pub are_groups : (lengths : List ℕ) (asked : Kinds) (found : List Sighting) → AreSightings lengths found → AreGroups lengths (groups_of asked found)
 are_groups lengths asked found are =

@@ -1,5 +1,5 @@
--- What leaves tell, one after the other.
-use Rattle.std.proofs.Common.{◌≡◌, ℕ, zero, suc, ◌+◌, ◌-◌, ◌*◌, ◌<◌, ◌≤◌, List, [], ◌∷◌, ◌++◌, Bool, true, false, cond, length, map, take, drop, get_or, slice_get, slice_set, slice_index, slice_range, fold, refl, sym, ap, ap₂, subst, ◌∙◌, arith, All, IfSome, IsSomeAnd, Option, Some, None}
+-- What a leaf tells.
+use Rattle.std.proofs.Common.{◌≡◌, ℕ, zero, suc, ◌+◌, ◌-◌, ◌*◌, ◌<◌, ◌≤◌, List, [], ◌∷◌, ◌++◌, Bool, true, false, cond, length, map, take, drop, get_or, slice_get, slice_set, slice_index, slice_range, refl, sym, ap, ap₂, subst, ◌∙◌, arith, All, IfSome, IsSomeAnd, Option, Some, None}
 use Rattle.std.specs.Prelude.{count_by, nat_le, ◌&&◌, ◌==◌}
 use Rattle.std.specs.List.{cons_option, filter_map, range_with_len}
 use Rattle.std.specs.Option.{option_map_or}
@@ -8,27 +8,22 @@ use Rattle.std.proofs.Math.ListN.{get_or-map}
 use Rattle.std.proofs.lemmas.List.{append-nil, drop_all, length-map, take_all}
 use Rattle.std.proofs.lemmas.List.Edits.{map_over_more}
 use Rattle.std.proofs.lemmas.List.Elements.{All-cons, All-get_or, All-head, All-nil, All-tail}
-use Rattle.std.proofs.lemmas.List.Sums.{fold_more, sum_by-cons, sum_by-le-sum_by, sum_by-take-le, sum_by_more}
+use Rattle.std.proofs.lemmas.List.Sums.{sum_by-cons}
 use Rattle.btrfstree.specs.declared.header.TreeBlock.{TreeBlock}
 use Rattle.btrfstree.specs.Whole.{is_whole}
 use Rattle.mark_kinds.specs.Table.{kind_place}
 use Rattle.mark_kinds.specs.declared.sectors.Kind.{Kind}
-use Rattle.mark_kinds.specs.declared.sectors.Kind.TheVariants.{Btrfstree as BtrfstreeKind, Gpt as GptKind}
 use Rattle.outside.specs.Attached.{told_all}
-use Rattle.outside.specs.Seen.{AreTold, AreWithin, Image, OnlyReads, Seen, lengths_of}
-use Rattle.outside.proofs.Reading.{reads_join, reads_none, reads_up}
-use Rattle.survey_engine.specs.declared.ask.Ask.{Ask}
-use Rattle.survey_engine.specs.Origins.{is_followed}
-use Rattle.survey_engine.specs.Surveys.{found_in, leaves_read, survey_reads}
-use Rattle.survey_engine.proofs.Firsts.{entries_of, image_there}
+use Rattle.outside.specs.Seen.{AreTold, AreWithin, Image, lengths_of}
+use Rattle.survey_engine.proofs.Firsts.{image_there}
 use Rattle.survey_engine.proofs.Reading.{told_bytes}
 use Rattle.std.proofs.lemmas.Bool.{false≢true}
 use Rattle.std.proofs.lemmas.Bool.Decides.{nat_tests}
 use Rattle.survey_engine.specs.Landmarks.{kind_of, IsSound}
 use Rattle.survey_engine.specs.Sightings.{is_same_kind, sighting_place, AreRising, AreSightings, IsInImages}
-use Rattle.survey_engine.specs.Telling.{bare, bare_landmark, begins_leaf, is_leaf, is_newer, is_other, is_same_number, landmark_with, leaf_of, sighting_with, spot_at, spot_of, told, told_by, with_leaf, with_spot}
+use Rattle.survey_engine.specs.Telling.{bare, bare_landmark, begins_leaf, is_leaf, is_newer, is_other, is_same_number, landmark_with, leaf_of, sighting_with, spot_at, spot_of, told_by_leaf, with_leaf, with_spot}
 use Rattle.survey_engine.specs.declared.landmark.Landmark.{Landmark}
-use Rattle.survey_engine.specs.declared.landmark.Landmark.TheVariants.{Tree}
+use Rattle.survey_engine.specs.declared.landmark.Landmark.TheVariants.{Placed, Tree}
 use Rattle.survey_engine.specs.declared.landmark.TreeSeen.{TreeSeen}
 use Rattle.survey_engine.specs.declared.sighting.Sighting.{Sighting}
 use Rattle.survey_engine.specs.declared.telling.Spot.{Spot}
@@ -113,11 +108,13 @@ heard_alike leaf by (s ∷ found) = ap₂ (λ (t : Sighting) (l : List Sighting)
 -- what they tell is that of what they are
 bare_begins : (landmark : Landmark) → begins_leaf (bare_landmark landmark) ≡ begins_leaf landmark
 bare_begins (Tree tree) = refl
+bare_begins (Placed pair place) = refl
 bare_begins landmark = refl
 
 bare_with : (leaf : List ℕ) (by landmark : Landmark) → landmark_with leaf (bare_landmark by) landmark ≡ landmark_with leaf by landmark
 bare_with leaf (Tree by) (Tree tree) = refl
 bare_with leaf (Tree by) landmark = refl
+bare_with leaf (Placed pair place) landmark = refl
 bare_with leaf by landmark = refl
 
 bare_leaf : (lengths : List ℕ) (s : Sighting) → is_leaf lengths (bare s) ≡ is_leaf lengths s
@@ -127,26 +124,29 @@ bare_leaf lengths s = ap (λ (b : Bool). b && nat_le (s.sector + 32) (slice_inde
 pub same_leaf : (lengths : List ℕ) (a b : Sighting) → bare a ≡ bare b → is_leaf lengths a ≡ is_leaf lengths b
 same_leaf lengths a b same = sym (bare_leaf lengths a) ∙ ap (is_leaf lengths) same ∙ bare_leaf lengths b
 
-bare_by : (lengths : List ℕ) (images : List (List ℕ)) (s by : Sighting) → told_by lengths images s (bare by) ≡ told_by lengths images s by
-unfolding told_by
+bare_by : (lengths : List ℕ) (images : List (List ℕ)) (s by : Sighting) → told_by_leaf lengths images s (bare by) ≡ told_by_leaf lengths images s by
+unfolding told_by_leaf
 bare_by lengths images s by =
     ap₂ (λ (b : Bool) (l : Landmark). cond (b && is_whole (leaf_of images by)) (record { image = s.image; sector = s.sector; landmark = l }) s) (bare_leaf lengths by) (bare_with (leaf_of images by) by.landmark s.landmark)
 
-same_by : (lengths : List ℕ) (images : List (List ℕ)) (s a b : Sighting) → bare a ≡ bare b → told_by lengths images s a ≡ told_by lengths images s b
-same_by lengths images s a b same = sym (bare_by lengths images s a) ∙ ap (told_by lengths images s) same ∙ bare_by lengths images s b
+pub same_by_leaf : (lengths : List ℕ) (images : List (List ℕ)) (s a b : Sighting) → bare a ≡ bare b → told_by_leaf lengths images s a ≡ told_by_leaf lengths images s b
+same_by_leaf lengths images s a b same = sym (bare_by lengths images s a) ∙ ap (told_by_leaf lengths images s) same ∙ bare_by lengths images s b
 
 -- ---- and so they are those of a survey
 
 bare_kind : (landmark : Landmark) → kind_of (bare_landmark landmark) ≡ kind_of landmark
 bare_kind (Tree tree) = refl
+bare_kind (Placed pair place) = refl
 bare_kind landmark = refl
 
 to_sound : (landmark : Landmark) → IsSound landmark → IsSound (bare_landmark landmark)
 to_sound (Tree tree) is = tt
+to_sound (Placed pair place) is = tt
 to_sound landmark is = is
 
 of_sound : (landmark : Landmark) → IsSound (bare_landmark landmark) → IsSound landmark
 of_sound (Tree tree) is = tt
+of_sound (Placed pair place) is = tt
 of_sound landmark is = is
 
 to_each : (lengths : List ℕ) (found : List Sighting) → All (IsInImages lengths) found → All (IsInImages lengths) (map bare found)
@@ -196,100 +196,6 @@ are_alike lengths found new alike are = record {
 pub alike_at : (found new : List Sighting) (i : ℕ) (s : Sighting) → map bare new ≡ map bare found → s ≡ get_or new i s → bare s ≡ bare (get_or found i s)
 alike_at found new i s alike is = ap bare is ∙ sym (get_or-map bare new i s) ∙ ap (λ (l : List Sighting). get_or l i (bare s)) alike ∙ get_or-map bare found i s
 
--- ---- of the leaves so far
-
-pub told_to : List ℕ → List (List ℕ) → List Sighting → ℕ → List Sighting
-told_to lengths images found n = map (λ s. fold (told_by lengths images) s (take n found)) found
-
-told_start : (lengths : List ℕ) (images : List (List ℕ)) (found : List Sighting) → map (λ s. s) found ≡ found
-told_start lengths images [] = refl
-told_start lengths images (s ∷ found) = ap (λ (l : List Sighting). s ∷ l) (told_start lengths images found)
-
-one_more : (lengths : List ℕ) (images : List (List ℕ)) (found : List Sighting) (i : ℕ) (by : Sighting) → i < length found → bare by ≡ bare (get_or found i by) → (some : List Sighting) →
-    map (λ s. told_by lengths images s by) (map (λ s. fold (told_by lengths images) s (take i found)) some) ≡ map (λ s. fold (told_by lengths images) s (take (i + 1) found)) some
-one_more lengths images found i by below same [] = refl
-one_more lengths images found i by below same (s ∷ some) =
-    ap₂ (λ (t : Sighting) (l : List Sighting). t ∷ l)
-    (same_by lengths images (fold (told_by lengths images) s (take i found)) by (get_or found i by) same ∙ sym (fold_more (told_by lengths images) s found i by below))
-    (one_more lengths images found i by below same some)
-
--- ---- and of what is known of images
-
-pub ToldTo : Option (List (List ℕ)) → List ℕ → List Sighting → ℕ → List Sighting → Type 0
-ToldTo bytes lengths found n new = IfSome bytes (λ images. new ≡ told_to lengths images found n)
-
-pub told_none : (bytes : Option (List (List ℕ))) (lengths : List ℕ) (found : List Sighting) → ToldTo bytes lengths found 0 found
-unfolding ToldTo told_to
-told_none None lengths found = tt
-told_none (Some images) lengths found = sym (told_start lengths images found)
-
-pub told_more : (bytes : Option (List (List ℕ))) (lengths : List ℕ) (found old new : List Sighting) (i : ℕ) (by : Sighting) → i < length found → bare by ≡ bare (get_or found i by) →
-    ToldTo bytes lengths found i old → IfSome bytes (λ images. new ≡ map (λ s. told_by lengths images s by) old) → ToldTo bytes lengths found (i + 1) new
-unfolding ToldTo told_to
-told_more None lengths found old new i by below same was adds = tt
-told_more (Some images) lengths found old new i by below same was adds =
-    adds ∙ ap (map (λ s. told_by lengths images s by)) was ∙ one_more lengths images found i by below same found
-
-pub told_all_of : (bytes : Option (List (List ℕ))) (lengths : List ℕ) (found new : List Sighting) (n : ℕ) → length found ≤ n → ToldTo bytes lengths found n new → IfSome bytes (λ images. new ≡ told lengths images found)
-unfolding ToldTo told_to told
-told_all_of None lengths found new n all is = tt
-told_all_of (Some images) lengths found new n all is = is ∙ ap (λ (l : List Sighting). map (λ s. fold (told_by lengths images) s l) found) (take_all n found all)
-
--- ---- what is read of them
-
-weight : (b : Bool) → ◌≡◌ {A = ℕ} (cond b 32 0) (32 * cond b 1 0)
-weight true = refl
-weight false = refl
-
-pub one_leaf_read : (a b c : Seen) (lengths : List ℕ) (found : List Sighting) (i : ℕ) (by : Sighting) → i < length found → bare by ≡ bare (get_or found i by) → OnlyReads a b (32 * count_by (is_leaf lengths) (take i found)) → OnlyReads b c (cond (is_leaf lengths by) 32 0) →
-    OnlyReads a c (32 * count_by (is_leaf lengths) (take (i + 1) found))
-one_leaf_read a b c lengths found i by below same ab bc =
-    let one : ◌≡◌ {A = ℕ} (cond (is_leaf lengths by) 32 0) (32 * cond (is_leaf lengths (get_or found i by)) 1 0) = ap (λ (t : Bool). cond t 32 0) (same_leaf lengths by (get_or found i by) same) ∙ weight (is_leaf lengths (get_or found i by)) in
-    reads_up a c (reads_join a b c ab bc) (omega (arith, sum_by_more (λ (t : Sighting). cond (is_leaf lengths t) 1 0) found i by below, one))
-
-pub leaves_some : (a b : Seen) (lengths : List ℕ) (found : List Sighting) (n : ℕ) → OnlyReads a b (32 * count_by (is_leaf lengths) (take n found)) → OnlyReads a b (32 * count_by (is_leaf lengths) found)
-leaves_some a b lengths found n ab = reads_up a b ab (omega (arith, sum_by-take-le (λ (t : Sighting). cond (is_leaf lengths t) 1 0) found n))
-
--- how many leaves there are
-leaf_one : (a b : Bool) → cond (a && b) 1 0 ≤ 1
-leaf_one true true = omega arith
-leaf_one true false = omega arith
-leaf_one false b = omega arith
-
-leaf_few : (landmark : Landmark) (b : Bool) → cond (begins_leaf landmark && b) 1 0 ≤ cond (kind_place (kind_of landmark) == 10) 1 0
-leaf_few (Tree tree) b = leaf_one tree.block.is_chunk_leaf b
-leaf_few landmark b = omega arith
-
-leaves_are_few : (lengths : List ℕ) (found : List Sighting) → count_by (is_leaf lengths) found ≤ count_by (is_same_kind BtrfstreeKind) found
-unfolding is_leaf
-leaves_are_few lengths found =
-    sum_by-le-sum_by (λ (s : Sighting). cond (is_leaf lengths s) 1 0) (λ (s : Sighting). cond (is_same_kind BtrfstreeKind s) 1 0) found (λ s. leaf_few s.landmark (nat_le (s.sector + 32) (slice_index lengths s.image)))
-
-leaves_of : (bytes : Option (List (List ℕ))) (ask : Ask) (attached : List Image) (lengths : List ℕ) (found : List Sighting) → lengths ≡ lengths_of attached → IfSome bytes (λ images. found ≡ found_in ask attached images) →
-    count_by (is_same_kind BtrfstreeKind) found ≤ 4096 → 32 * count_by (is_leaf lengths) found ≤ leaves_read bytes ask attached
-leaves_of None ask attached lengths found are is few = omega (arith, leaves_are_few lengths found, few)
-leaves_of (Some images) ask attached lengths found are is few =
-    let same : count_by (is_leaf lengths) found ≡ count_by (is_leaf (lengths_of attached)) (found_in ask attached images) =
-    ap (λ (ns : List ℕ). count_by (is_leaf ns) found) are ∙ ap (λ (l : List Sighting). count_by (is_leaf (lengths_of attached)) l) is in
-    omega (arith, same)
-
--- what was read in all
-pub sweep_read : (a b : Seen) (ask : Ask) → OnlyReads a b (length a.attached * (ask.end - slice_index ask.bounds.offsets.items 0)) → OnlyReads a b (survey_reads ask a.attached)
-unfolding survey_reads
-sweep_read a b ask ab = reads_up a b ab (omega arith)
-
-pub survey_read : (a b c d : Seen) (ask : Ask) (lengths : List ℕ) (found : List Sighting) → lengths ≡ lengths_of a.attached → IfSome (told_all a.attached) (λ bytes. found ≡ found_in ask a.attached bytes) →
-    ((kind : Kind) → count_by (is_same_kind kind) found ≤ 4096) → OnlyReads a b (length a.attached * (ask.end - slice_index ask.bounds.offsets.items 0)) → OnlyReads b c (count_by (is_followed lengths) found) →
-    OnlyReads c d (32 * count_by (is_leaf lengths) found) → OnlyReads a d (survey_reads ask a.attached)
-unfolding survey_reads
-survey_read a b c d ask lengths found are is few ab bc cd =
-    reads_up a d (reads_join a c d (reads_join a b c ab bc) cd)
-    (omega (arith, entries_of (told_all a.attached) ask a.attached lengths found are is (few GptKind), leaves_of (told_all a.attached) ask a.attached lengths found are is (few BtrfstreeKind)))
-
--- nothing of leaves, yet
-pub no_leaf_read : (a : Seen) (lengths : List ℕ) (found : List Sighting) → OnlyReads a a (32 * count_by (is_leaf lengths) found)
-no_leaf_read a lengths found = reads_up a a (reads_none a) (omega arith)
-
 -- ---- of one of them
 
 pub in_images_at : (lengths : List ℕ) (found : List Sighting) (i : ℕ) (s : Sighting) → AreSightings lengths found → i < length found → s ≡ get_or found i s → IsInImages lengths s
@@ -303,16 +209,16 @@ fits : (lengths : List ℕ) (s : Sighting) → is_leaf lengths s ≡ true → s.
 unfolding is_leaf
 fits lengths s is = grind (arith, nat_tests)
 
-reaches : (attached : List Image) (i sector : ℕ) → i < length attached → sector + 32 ≤ get_or (lengths_of attached) i 0 → IsSomeAnd (slice_get attached i) (λ a. sector + 32 ≤ a.sectors)
-reaches [] i sector below more = absurd (omega arith)
-reaches (a ∷ attached) zero sector below more = more
-reaches (a ∷ attached) (suc i) sector below more = reaches attached i sector (omega arith) more
+pub reaches : (attached : List Image) (i end : ℕ) → i < length attached → end ≤ get_or (lengths_of attached) i 0 → IsSomeAnd (slice_get attached i) (λ a. end ≤ a.sectors)
+reaches [] i end below more = absurd (omega arith)
+reaches (a ∷ attached) zero end below more = more
+reaches (a ∷ attached) (suc i) end below more = reaches attached i end (omega arith) more
 
 pub leaf_within : (attached : List Image) (lengths : List ℕ) (s : Sighting) → lengths ≡ lengths_of attached → IsInImages lengths s → is_leaf lengths s ≡ true → AreWithin attached s.image s.sector 16384
 leaf_within attached lengths s are in_it is = record {
   whole = refl;
   some = omega arith;
-  inside = reaches attached s.image s.sector (image_there attached lengths s.image s.sector are in_it.sector) (subst (λ (l : List ℕ). s.sector + 32 ≤ get_or l s.image 0) are (fits lengths s is));
+  inside = reaches attached s.image (s.sector + 32) (image_there attached lengths s.image s.sector are in_it.sector) (subst (λ (l : List ℕ). s.sector + 32 ≤ get_or l s.image 0) are (fits lengths s is));
 }
 
 leaf_read : (attached : List Image) (bytes : Option (List (List ℕ))) (s : Sighting) (leaf : List ℕ) → told_all attached ≡ bytes → s.image < length attached → AreTold attached s.image s.sector leaf → length leaf ≡ 16384 → IfSome bytes (λ images. leaf ≡ leaf_of images s)
@@ -323,8 +229,8 @@ pub leaf_told : (attached : List Image) (lengths : List ℕ) (s : Sighting) (lea
 leaf_told attached lengths s leaf lengths_are in_it are long = leaf_read attached (told_all attached) s leaf refl (image_there attached lengths s.image s.sector lengths_are in_it.sector) are long
 
 -- where it tells nothing
-silent : (lengths : List ℕ) (images : List (List ℕ)) (by : Sighting) (found : List Sighting) → (is_leaf lengths by && is_whole (leaf_of images by)) ≡ false → found ≡ map (λ s. told_by lengths images s by) found
-unfolding told_by
+silent : (lengths : List ℕ) (images : List (List ℕ)) (by : Sighting) (found : List Sighting) → (is_leaf lengths by && is_whole (leaf_of images by)) ≡ false → found ≡ map (λ s. told_by_leaf lengths images s by) found
+unfolding told_by_leaf
 silent lengths images by [] fails = refl
 silent lengths images by (s ∷ found) fails = ap₂ (λ (t : Sighting) (l : List Sighting). t ∷ l) (rw fails refl) (silent lengths images by found fails)
 
@@ -336,22 +242,22 @@ not_other : (a b : Bool) → b ≡ false → (a && b) ≡ false
 not_other false b fails = refl
 not_other true b fails = fails
 
-pub no_leaf : (bytes : Option (List (List ℕ))) (lengths : List ℕ) (by : Sighting) (found : List Sighting) → is_leaf lengths by ≡ false → IfSome bytes (λ images. found ≡ map (λ s. told_by lengths images s by) found)
+pub no_leaf : (bytes : Option (List (List ℕ))) (lengths : List ℕ) (by : Sighting) (found : List Sighting) → is_leaf lengths by ≡ false → IfSome bytes (λ images. found ≡ map (λ s. told_by_leaf lengths images s by) found)
 no_leaf None lengths by found fails = tt
 no_leaf (Some images) lengths by found fails = silent lengths images by found (neither (is_leaf lengths by) (is_whole (leaf_of images by)) fails)
 
-pub not_whole : (bytes : Option (List (List ℕ))) (lengths leaf : List ℕ) (by : Sighting) (found : List Sighting) → IfSome bytes (λ images. leaf ≡ leaf_of images by) → is_whole leaf ≡ false → IfSome bytes (λ images. found ≡ map (λ s. told_by lengths images s by) found)
+pub not_whole : (bytes : Option (List (List ℕ))) (lengths leaf : List ℕ) (by : Sighting) (found : List Sighting) → IfSome bytes (λ images. leaf ≡ leaf_of images by) → is_whole leaf ≡ false → IfSome bytes (λ images. found ≡ map (λ s. told_by_leaf lengths images s by) found)
 not_whole None lengths leaf by found read fails = tt
 not_whole (Some images) lengths leaf by found read fails = silent lengths images by found (not_other (is_leaf lengths by) (is_whole (leaf_of images by)) (ap is_whole (sym read) ∙ fails))
 
 -- and where it tells
-speaks : (lengths : List ℕ) (images : List (List ℕ)) (by : Sighting) (found : List Sighting) → is_leaf lengths by ≡ true → is_whole (leaf_of images by) ≡ true → map (sighting_with (leaf_of images by) by.landmark) found ≡ map (λ s. told_by lengths images s by) found
-unfolding told_by
+speaks : (lengths : List ℕ) (images : List (List ℕ)) (by : Sighting) (found : List Sighting) → is_leaf lengths by ≡ true → is_whole (leaf_of images by) ≡ true → map (sighting_with (leaf_of images by) by.landmark) found ≡ map (λ s. told_by_leaf lengths images s by) found
+unfolding told_by_leaf
 speaks lengths images by [] is whole = refl
 speaks lengths images by (s ∷ found) is whole = ap₂ (λ (t : Sighting) (l : List Sighting). t ∷ l) (rw (is, whole) refl) (speaks lengths images by found is whole)
 
 pub whole_leaf : (bytes : Option (List (List ℕ))) (lengths leaf : List ℕ) (by : Sighting) (found new : List Sighting) → new ≡ map (sighting_with leaf by.landmark) found → is_leaf lengths by ≡ true → IfSome bytes (λ images. leaf ≡ leaf_of images by) → is_whole leaf ≡ true →
-    IfSome bytes (λ images. new ≡ map (λ s. told_by lengths images s by) found)
+    IfSome bytes (λ images. new ≡ map (λ s. told_by_leaf lengths images s by) found)
 whole_leaf None lengths leaf by found new heard is read whole = tt
 whole_leaf (Some images) lengths leaf by found new heard is read whole =
     heard ∙ ap (λ (l : List ℕ). map (sighting_with l by.landmark) found) read ∙ speaks lengths images by found is (ap is_whole (sym read) ∙ whole)

@@ -16,3 +16,5 @@ pub mod Marks
 pub mod Once
 pub mod Law
 pub mod Leaves
+pub mod Descriptors
+pub mod Told

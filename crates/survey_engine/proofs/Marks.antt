@@ -1,12 +1,12 @@
 -- The marks of a group are those of a plan.
 use Rattle.std.proofs.Common.{◌≡◌, ℕ, ◌+◌, ◌*◌, ◌/◌, ◌^◌, ◌<◌, ◌≤◌, List, [], ◌∷◌, Bool, true, false, cond, map, refl, arith, All, IfSome, Option, Some, None}
-use Rattle.std.specs.Prelude.{◌&&◌, ◌==◌}
+use Rattle.std.specs.Prelude.{◌&&◌, ◌==◌, nat_lt}
 use Rattle.std.specs.Str.{bytes_eq}
 use Rattle.std.specs.List.{cons_option, filter_map}
 use Rattle.std.specs.Option.{option_map}
 use Rattle.std.specs.List.Sorted.{IsStrictlyIncreasing}
 use Rattle.std.proofs.lemmas.Nat.{mul-le}
-use Rattle.std.proofs.lemmas.Bool.{and_parts}
+use Rattle.std.proofs.lemmas.Bool.{and_parts, ltb-true}
 use Rattle.std.proofs.lemmas.Bool.Decides.{nat_tests}
 use Rattle.std.proofs.lemmas.List.Elements.{All-cons, All-head, All-nil, All-tail}
 use Rattle.ntfs_marks.specs.Boot.{is_within_limit}
@@ -22,12 +22,13 @@ use Rattle.landmark_rules.specs.declared.marks.Mark.{Mark}
 use Rattle.landmark_rules.specs.declared.marks.Rule.{Rule}
 use Rattle.landmark_rules.specs.declared.marks.Rule.TheVariants.{At, Either, Every}
 use Rattle.survey_engine.specs.Landmarks.{kind_of, IsSound}
-use Rattle.survey_engine.specs.Owners.{group_kind, ag_rule, is_same_boot, is_same_super, is_same_volume, mark_in, begins_sector, placed_rule, record_rule, rule_in, tree_rule, volume_of, IsSoundOwner}
+use Rattle.survey_engine.specs.Owners.{group_kind, ag_rule, is_same_boot, is_same_super, inodes_rule, is_same_volume, mark_in, begins_sector, placed_rule, record_rule, rule_in, tree_rule, volume_of, IsSoundOwner}
 use Rattle.survey_engine.specs.Sightings.{sighted_at, sighting_place, AreRising, IsInImages, Place}
+use Rattle.survey_engine.specs.declared.landmark.InodePlace.{InodePlace}
 use Rattle.survey_engine.specs.declared.landmark.Landmark.{Landmark}
-use Rattle.survey_engine.specs.declared.landmark.Landmark.TheVariants.{Gpt, Boot, FileRecord, Super, Super5, Agf, Agi, Btrfs as BtrfsSector, Lvm, Ext as ExtSector, Inode, Tree}
+use Rattle.survey_engine.specs.declared.landmark.Landmark.TheVariants.{Gpt, Boot, FileRecord, Super, Super5, Agf, Agi, Btrfs as BtrfsSector, Lvm, Ext as ExtSector, Inode, Tree, Placed}
 use Rattle.survey_engine.specs.declared.owner.Owner.{Owner}
-use Rattle.survey_engine.specs.declared.owner.Owner.TheVariants.{Table, Ntfs, Xfs, Btrfs, Label, Ext, Xfs5, Trees}
+use Rattle.survey_engine.specs.declared.owner.Owner.TheVariants.{Table, Ntfs, Xfs, Btrfs, Label, Ext, Xfs5, Trees, Extinode}
 use Rattle.survey_engine.specs.declared.sighting.Sighting.{Sighting}
 use Rattle.survey_engine.proofs.Numbers.{rising_from, Rises}
 use Rattle.survey_engine.proofs.Owners.{mapped_each}
@@ -97,6 +98,10 @@ placed_is (Some a) None = if_passed (begins_sector a) (At (a / 512)) (near_secto
 placed_is (Some a) (Some b) =
     if_passed (begins_sector a && begins_sector b) (Either (a / 512) (b / 512)) (λ both. (near_sector a (and_parts (begins_sector a) (begins_sector b) both).0, near_sector b (and_parts (begins_sector a) (begins_sector b) both).1))
 
+inodes_near : (place : InodePlace) → IfSome (inodes_rule place) IsRule
+unfolding inodes_rule
+inodes_near place = if_passed (nat_lt place.sector (2 ^ 55)) (At place.sector) (λ below. ltb-true place.sector (2 ^ 55) below)
+
 rule_is : (o : Owner) (alone : Bool) (at : Place) (l : Landmark) → IsSoundOwner o → IsSound l → IfSome (rule_in o alone at l) IsRule
 unfolding rule_in
 rule_is Table alone at (Gpt t) so sl = sl.1
@@ -111,6 +116,7 @@ rule_is (Label i s) alone at (Lvm n) so sl = if_passed (i == at.image && s == at
 rule_is (Ext v) alone at (ExtSector x) so sl = if_passed (is_same_volume v (volume_of x)) (At x.copy_sector) (λ same. sl)
 rule_is (Xfs5 x) alone at (Inode i) so sl = if_placed (bytes_eq x.uuid i.uuid) (inode_sector x i.number) (inode_near x i.number so)
 rule_is (Trees u) alone at (Tree t) so sl = if_ruled (bytes_eq u t.block.identifier) (tree_rule t) (placed_is t.first t.second)
+rule_is (Extinode u) alone at (Placed pair place) so sl = if_ruled (bytes_eq u place.identifier) (inodes_rule place) (inodes_near place)
 rule_is o alone at l so sl = tt
 
 any_rule : (P : Type 0) (rule : Option Rule) → P → IfSome rule (λ r. P)
@@ -131,6 +137,7 @@ kind_is (Label i s) alone at (Lvm n) = any_rule _ (cond (i == at.image && s == a
 kind_is (Ext v) alone at (ExtSector x) = any_rule _ (cond (is_same_volume v (volume_of x)) (Some (At x.copy_sector)) None) refl
 kind_is (Xfs5 x) alone at (Inode i) = any_rule _ (cond (bytes_eq x.uuid i.uuid) (option_map At (inode_sector x i.number)) None) refl
 kind_is (Trees u) alone at (Tree t) = any_rule _ (cond (bytes_eq u t.block.identifier) (tree_rule t) None) refl
+kind_is (Extinode u) alone at (Placed pair place) = any_rule _ (cond (bytes_eq u place.identifier) (inodes_rule place) None) refl
 kind_is o alone at l = tt
 
 -- ---- marks

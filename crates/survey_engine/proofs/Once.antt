@@ -22,14 +22,16 @@ use Rattle.landmark_rules.specs.declared.marks.Mark.{Mark}
 use Rattle.landmark_rules.specs.declared.marks.Rule.{Rule}
 use Rattle.landmark_rules.specs.declared.marks.Rule.TheVariants.{At, Either, Every}
 use Rattle.survey_engine.specs.Landmarks.{kind_of}
-use Rattle.survey_engine.specs.Owners.{is_same_boot, is_same_owner, is_same_super, is_same_volume, mark_in, owners_of, rule_in, tree_rule, volume_of}
+use Rattle.survey_engine.specs.Owners.{is_same_boot, is_same_owner, is_same_super, is_same_volume, inodes_rule, mark_in, owners_of, rule_in, tree_rule, volume_of}
 use Rattle.survey_engine.specs.Sightings.{is_same_kind, sighted_at, Place}
 use Rattle.survey_engine.specs.declared.landmark.GptTable.{GptTable}
+use Rattle.inode_marks.specs.declared.inode.InodePair.{InodePair}
+use Rattle.survey_engine.specs.declared.landmark.InodePlace.{InodePlace}
 use Rattle.survey_engine.specs.declared.landmark.Landmark.{Landmark}
-use Rattle.survey_engine.specs.declared.landmark.Landmark.TheVariants.{Gpt, Boot, FileRecord, Super, Super5, Agf, Agi, Btrfs as BtrfsSector, Lvm, Ext as ExtSector, Inode, Tree}
+use Rattle.survey_engine.specs.declared.landmark.Landmark.TheVariants.{Gpt, Boot, FileRecord, Super, Super5, Agf, Agi, Btrfs as BtrfsSector, Lvm, Ext as ExtSector, Inode, Tree, Inodes, Placed}
 use Rattle.survey_engine.specs.declared.landmark.TreeSeen.{TreeSeen}
 use Rattle.survey_engine.specs.declared.owner.Owner.{Owner}
-use Rattle.survey_engine.specs.declared.owner.Owner.TheVariants.{Table, Ntfs, Xfs, Btrfs, Label, Ext, Xfs5, Trees}
+use Rattle.survey_engine.specs.declared.owner.Owner.TheVariants.{Table, Ntfs, Xfs, Btrfs, Label, Ext, Xfs5, Trees, Extinode}
 use Rattle.survey_engine.specs.declared.sighting.Sighting.{Sighting}
 use Rattle.survey_engine.proofs.Owners.{owners_once}
 
@@ -68,6 +70,7 @@ takes_boot alone at c (Label i s) takes = takes
 takes_boot alone at c (Ext v) takes = takes
 takes_boot alone at c (Xfs5 x) takes = takes
 takes_boot alone at c (Trees u) takes = takes
+takes_boot alone at c (Extinode u) takes = takes
 
 takes_super : (alone : Bool) (at : Place) (y : XfsSuper) (o : Owner) → is_some (rule_in o alone at (Super y)) ≡ true → is_same_owner o (Xfs y) ≡ true
 unfolding rule_in
@@ -79,6 +82,7 @@ takes_super alone at y (Label i s) takes = takes
 takes_super alone at y (Ext v) takes = takes
 takes_super alone at y (Xfs5 x) takes = takes
 takes_super alone at y (Trees u) takes = takes
+takes_super alone at y (Extinode u) takes = takes
 
 takes_super5 : (alone : Bool) (at : Place) (y : XfsSuper) (places : XfsInodes) (o : Owner) → is_some (rule_in o alone at (Super5 y places)) ≡ true → is_same_owner o (Xfs y) ≡ true
 unfolding rule_in
@@ -90,6 +94,7 @@ takes_super5 alone at y places (Label i s) takes = takes
 takes_super5 alone at y places (Ext v) takes = takes
 takes_super5 alone at y places (Xfs5 x) takes = takes
 takes_super5 alone at y places (Trees u) takes = takes
+takes_super5 alone at y places (Extinode u) takes = takes
 
 takes_header : (alone : Bool) (at : Place) (t : GptTable) (o : Owner) → is_some (rule_in o alone at (Gpt t)) ≡ true → is_same_owner o Table ≡ true
 unfolding rule_in
@@ -101,6 +106,7 @@ takes_header alone at t (Label i s) takes = takes
 takes_header alone at t (Ext v) takes = takes
 takes_header alone at t (Xfs5 x) takes = takes
 takes_header alone at t (Trees u) takes = takes
+takes_header alone at t (Extinode u) takes = takes
 
 takes_btrfs : (alone : Bool) (at : Place) (y : BtrfsSuper) (o : Owner) → is_some (rule_in o alone at (BtrfsSector y)) ≡ true → is_same_owner o (Btrfs y.fsid) ≡ true
 unfolding rule_in
@@ -112,6 +118,7 @@ takes_btrfs alone at y (Label i s) takes = takes
 takes_btrfs alone at y (Ext v) takes = takes
 takes_btrfs alone at y (Xfs5 x) takes = takes
 takes_btrfs alone at y (Trees u) takes = takes
+takes_btrfs alone at y (Extinode u) takes = takes
 
 takes_label : (alone : Bool) (at : Place) (n : ℕ) (o : Owner) → is_some (rule_in o alone at (Lvm n)) ≡ true → is_same_owner o (Label at.image at.sector) ≡ true
 unfolding rule_in
@@ -123,6 +130,7 @@ takes_label alone at n (Label i s) takes = sym (passed (i == at.image && s == at
 takes_label alone at n (Ext v) takes = takes
 takes_label alone at n (Xfs5 x) takes = takes
 takes_label alone at n (Trees u) takes = takes
+takes_label alone at n (Extinode u) takes = takes
 
 takes_copy : (alone : Bool) (at : Place) (y : ExtSuper) (o : Owner) → is_some (rule_in o alone at (ExtSector y)) ≡ true → is_same_owner o (Ext (volume_of y)) ≡ true
 unfolding rule_in
@@ -134,6 +142,7 @@ takes_copy alone at y (Label i s) takes = takes
 takes_copy alone at y (Ext v) takes = sym (passed (is_same_volume v (volume_of y)) (At y.copy_sector)) ∙ takes
 takes_copy alone at y (Xfs5 x) takes = takes
 takes_copy alone at y (Trees u) takes = takes
+takes_copy alone at y (Extinode u) takes = takes
 
 -- an owner of inodes with an identifier
 of_uuid : List ℕ → XfsInodes
@@ -153,6 +162,7 @@ takes_inode alone at i (Label j s) takes = takes
 takes_inode alone at i (Ext v) takes = takes
 takes_inode alone at i (Xfs5 x) takes = placed_passed (bytes_eq x.uuid i.uuid) (inode_sector x i.number) takes
 takes_inode alone at i (Trees u) takes = takes
+takes_inode alone at i (Extinode u) takes = takes
 
 ruled_passed : (b : Bool) (rule : Option Rule) → is_some (cond b rule None) ≡ true → b ≡ true
 ruled_passed true rule takes = refl
@@ -168,6 +178,32 @@ takes_tree alone at t (Label j s) takes = takes
 takes_tree alone at t (Ext v) takes = takes
 takes_tree alone at t (Xfs5 x) takes = takes
 takes_tree alone at t (Trees u) takes = ruled_passed (bytes_eq u t.block.identifier) (tree_rule t) takes
+takes_tree alone at t (Extinode u) takes = takes
+
+takes_placed : (alone : Bool) (at : Place) (pair : InodePair) (place : InodePlace) (o : Owner) → is_some (rule_in o alone at (Placed pair place)) ≡ true → is_same_owner o (Extinode place.identifier) ≡ true
+unfolding rule_in
+takes_placed alone at pair place Table takes = takes
+takes_placed alone at pair place (Ntfs b) takes = takes
+takes_placed alone at pair place (Xfs x) takes = takes
+takes_placed alone at pair place (Btrfs f) takes = takes
+takes_placed alone at pair place (Label j s) takes = takes
+takes_placed alone at pair place (Ext v) takes = takes
+takes_placed alone at pair place (Xfs5 x) takes = takes
+takes_placed alone at pair place (Trees u) takes = takes
+takes_placed alone at pair place (Extinode u) takes = ruled_passed (bytes_eq u place.identifier) (inodes_rule place) takes
+
+-- two inodes of which it is not known where they lie are no mark
+none_unplaced : (alone : Bool) (at : Place) (pair : InodePair) (o : Owner) → is_some (rule_in o alone at (Inodes pair)) ≡ false
+unfolding rule_in
+none_unplaced alone at pair Table = refl
+none_unplaced alone at pair (Ntfs b) = refl
+none_unplaced alone at pair (Xfs x) = refl
+none_unplaced alone at pair (Btrfs f) = refl
+none_unplaced alone at pair (Label j s) = refl
+none_unplaced alone at pair (Ext v) = refl
+none_unplaced alone at pair (Xfs5 x) = refl
+none_unplaced alone at pair (Trees u) = refl
+none_unplaced alone at pair (Extinode u) = refl
 
 none_alone_record : (at : Place) (r : NtfsRecord) (o : Owner) → is_some (rule_in o false at (FileRecord r)) ≡ false
 unfolding rule_in
@@ -179,6 +215,7 @@ none_alone_record at r (Label i s) = refl
 none_alone_record at r (Ext v) = refl
 none_alone_record at r (Xfs5 x) = refl
 none_alone_record at r (Trees u) = refl
+none_alone_record at r (Extinode u) = refl
 
 none_alone_agf : (at : Place) (g : ℕ) (o : Owner) → is_some (rule_in o false at (Agf g)) ≡ false
 unfolding rule_in
@@ -190,6 +227,7 @@ none_alone_agf at g (Label i s) = refl
 none_alone_agf at g (Ext v) = refl
 none_alone_agf at g (Xfs5 x) = refl
 none_alone_agf at g (Trees u) = refl
+none_alone_agf at g (Extinode u) = refl
 
 none_alone_agi : (at : Place) (g : ℕ) (o : Owner) → is_some (rule_in o false at (Agi g)) ≡ false
 unfolding rule_in
@@ -201,6 +239,7 @@ none_alone_agi at g (Label i s) = refl
 none_alone_agi at g (Ext v) = refl
 none_alone_agi at g (Xfs5 x) = refl
 none_alone_agi at g (Trees u) = refl
+none_alone_agi at g (Extinode u) = refl
 
 alone_or : (owners : List Owner) (at : Place) (l : Landmark) (alone : Bool) → eqb (length owners) 1 ≡ alone → ((o : Owner) → is_some (rule_in o false at l) ≡ false) → count_by (λ o. is_some (rule_in o alone at l)) owners ≤ 1
 alone_or owners at l true e none = let one : length owners ≡ 1 = eqb-true (length owners) 1 e in omega (arith, count_by-le-length (λ o. is_some (rule_in o true at l)) owners)
@@ -226,6 +265,10 @@ taken_once kind found at (Inode i) =
     omega (arith, fewer (λ o. is_some (rule_in o (length (owners_of kind found) == 1) at (Inode i))) (λ o. is_same_owner o (Xfs5 (of_uuid i.uuid))) (takes_inode (length (owners_of kind found) == 1) at i) (owners_of kind found), owners_once kind found (Xfs5 (of_uuid i.uuid)))
 taken_once kind found at (Tree t) =
     omega (arith, fewer (λ o. is_some (rule_in o (length (owners_of kind found) == 1) at (Tree t))) (λ o. is_same_owner o (Trees t.block.identifier)) (takes_tree (length (owners_of kind found) == 1) at t) (owners_of kind found), owners_once kind found (Trees t.block.identifier))
+taken_once kind found at (Placed pair place) =
+    omega (arith, fewer (λ o. is_some (rule_in o (length (owners_of kind found) == 1) at (Placed pair place))) (λ o. is_same_owner o (Extinode place.identifier)) (takes_placed (length (owners_of kind found) == 1) at pair place) (owners_of kind found), owners_once kind found (Extinode place.identifier))
+taken_once kind found at (Inodes pair) =
+    omega (arith, none_pass (λ o. is_some (rule_in o (length (owners_of kind found) == 1) at (Inodes pair))) (none_unplaced (length (owners_of kind found) == 1) at pair) (owners_of kind found))
 taken_once kind found at (FileRecord r) = alone_or (owners_of kind found) at (FileRecord r) (length (owners_of kind found) == 1) refl (none_alone_record at r)
 taken_once kind found at (Agf g) = alone_or (owners_of kind found) at (Agf g) (length (owners_of kind found) == 1) refl (none_alone_agf at g)
 taken_once kind found at (Agi g) = alone_or (owners_of kind found) at (Agi g) (length (owners_of kind found) == 1) refl (none_alone_agi at g)

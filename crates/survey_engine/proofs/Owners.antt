@@ -19,13 +19,13 @@ use Rattle.landmark_rules.specs.Groups.{group_place, most_groups}
 use Rattle.mark_kinds.specs.declared.groups.GroupKind.{GroupKind}
 use Rattle.survey_engine.specs.Kept.{kept_with}
 use Rattle.survey_engine.specs.Landmarks.{IsSound}
-use Rattle.survey_engine.specs.Owners.{group_kind, inodes_owner, is_new, is_same_boot, is_same_owner, is_same_super, is_same_volume, owner_among, owner_for, owner_in, owners_of, tree_rule, IsSoundOwner}
+use Rattle.survey_engine.specs.Owners.{group_kind, inodes_owner, is_new, is_same_boot, is_same_owner, inodes_rule, is_same_super, is_same_volume, owner_among, owner_for, owner_in, owners_of, tree_rule, IsSoundOwner}
 use Rattle.survey_engine.specs.declared.landmark.Landmark.{Landmark}
-use Rattle.survey_engine.specs.declared.landmark.Landmark.TheVariants.{Gpt, Boot, FileRecord, Super, Super5, Agf, Agi, Btrfs as BtrfsSector, Lvm, Ext as ExtSector, Inode, Tree}
+use Rattle.survey_engine.specs.declared.landmark.Landmark.TheVariants.{Gpt, Boot, FileRecord, Super, Super5, Agf, Agi, Btrfs as BtrfsSector, Lvm, Ext as ExtSector, Inode, Tree, Inodes, Placed}
 use Rattle.survey_engine.specs.Sightings.{sighted_at, Place}
 use Rattle.survey_engine.specs.declared.owner.ExtVolume.{ExtVolume}
 use Rattle.survey_engine.specs.declared.owner.Owner.{Owner}
-use Rattle.survey_engine.specs.declared.owner.Owner.TheVariants.{Table, Ntfs, Xfs, Btrfs, Label, Ext, Xfs5, Trees}
+use Rattle.survey_engine.specs.declared.owner.Owner.TheVariants.{Table, Ntfs, Xfs, Btrfs, Label, Ext, Xfs5, Trees, Extinode}
 use Rattle.survey_engine.specs.declared.sighting.Sighting.{Sighting}
 
 -- ---- what is kept
@@ -102,6 +102,8 @@ sound_in at (Lvm n) is = tt
 sound_in at (ExtSector x) is = tt
 sound_in at (Inode i) is = tt
 sound_in at (Tree t) is = sound_tested (Trees t.block.identifier) (is_some (tree_rule t)) tt
+sound_in at (Inodes pair) is = tt
+sound_in at (Placed pair place) is = sound_tested (Extinode place.identifier) (is_some (inodes_rule place)) tt
 
 sound_inodes : (l : Landmark) → IsSound l → IfSome (inodes_owner l) IsSoundOwner
 sound_inodes (Gpt h) is = tt
@@ -116,6 +118,8 @@ sound_inodes (Lvm n) is = tt
 sound_inodes (ExtSector x) is = tt
 sound_inodes (Inode i) is = tt
 sound_inodes (Tree t) is = tt
+sound_inodes (Inodes pair) is = tt
+sound_inodes (Placed pair place) is = tt
 
 either_sound : (b : Bool) (one other : Option Owner) → IfSome one IsSoundOwner → IfSome other IsSoundOwner → IfSome (cond b one other) IsSoundOwner
 either_sound true one other is or = is
@@ -182,6 +186,7 @@ places_alike a b (Btrfs c) same = refl
 places_alike a b (Label i s) same = refl
 places_alike a b (Ext c) same = refl
 places_alike a b (Trees c) same = refl
+places_alike a b (Extinode c) same = refl
 places_alike a b (Xfs5 c) same = ap (λ (u : List ℕ). bytes_eq u c.uuid) same
 
 as_one : (a b p : Owner) → a ≡ b → is_same_owner a p ≡ is_same_owner b p
@@ -196,6 +201,7 @@ alike (Btrfs a) (Btrfs b) p same = as_one (Btrfs a) (Btrfs b) p (ap Btrfs ((byte
 alike (Label i s) (Label j t) p same = as_one (Label i s) (Label j t) p (label_means i s j t same)
 alike (Ext a) (Ext b) p same = as_one (Ext a) (Ext b) p (ap Ext (volume_means a b same))
 alike (Trees a) (Trees b) p same = as_one (Trees a) (Trees b) p (ap Trees ((bytes_eq-Decides a b).0 same))
+alike (Extinode a) (Extinode b) p same = as_one (Extinode a) (Extinode b) p (ap Extinode ((bytes_eq-Decides a b).0 same))
 alike (Xfs5 a) (Xfs5 b) p same = places_alike a b p ((bytes_eq-Decides a.uuid b.uuid).0 same)
 alike a b p same = absurd (false≢true same)
 
@@ -208,6 +214,7 @@ same_self Table = refl
 same_self (Ntfs a) = grind (arith, nat_tests)
 same_self (Btrfs a) = (bytes_eq-Decides a a).1 refl
 same_self (Trees a) = (bytes_eq-Decides a a).1 refl
+same_self (Extinode a) = (bytes_eq-Decides a a).1 refl
 same_self (Xfs5 a) = (bytes_eq-Decides a.uuid a.uuid).1 refl
 same_self (Label i s) = grind (arith, nat_tests)
 same_self (Ext a) = let bytes : bytes_eq a.uuid a.uuid ≡ true = (bytes_eq-Decides a.uuid a.uuid).1 refl in grind (arith, nat_tests)

@@ -1,5 +1,5 @@
 -- What a sector may be.
-use Rattle.std.specs.Prelude.{ℕ, ◌*◌, ◌<◌, ◌%◌, Bool, true, false, ◌||◌, ◌&&◌, ◌==◌, IsTrue, nat_lt, List, [], Option, Some, None, option_and_then, if◌then◌else◌, ◌^◌}
+use Rattle.std.specs.Prelude.{ℕ, ◌*◌, ◌<◌, ◌%◌, Bool, false, ◌||◌, ◌==◌, IsTrue, nat_lt, List, [], Option, Some, None, option_and_then, if◌then◌else◌, ◌^◌}
 use Rattle.std.specs.Option.{option_map, option_or}
 use Rattle.sector_fields.specs.Fields.{u32_be, u64_le}
 use Rattle.gpt_marks.specs.Header.{is_gpt_header, gpt_header_of, is_own_table, IsUnit}
@@ -16,16 +16,16 @@ use Rattle.xfs5.specs.Inode.{xfs_inode}
 use Rattle.xfs5.specs.Places.{xfs_inodes, is_sound as is_sound_place}
 use Rattle.xfs5.specs.declared.inode.XfsInode.{XfsInode}
 use Rattle.xfs5.specs.declared.places.XfsInodes.{XfsInodes}
+use Rattle.inode_marks.specs.Inode.{any_pair}
 use Rattle.btrfstree.specs.Header.{tree_block}
 use Rattle.btrfstree.specs.declared.header.TreeBlock.{TreeBlock}
 use Rattle.mark_kinds.specs.Table.{group_of, is_group_asked}
 use Rattle.mark_kinds.specs.declared.looking.Kinds.{Kinds}
 use Rattle.mark_kinds.specs.declared.sectors.Kind.{Kind}
-use Rattle.mark_kinds.specs.declared.sectors.Kind.TheVariants.{Gpt as GptKind, Boot as BootKind, FileRecord as RecordKind, Super as SuperKind, Agf as AgfKind, Agi as AgiKind, Btrfs as BtrfsKind, Lvm as LvmKind, Ext as ExtKind, Xfs5 as Xfs5Kind, Btrfstree as BtrfstreeKind}
+use Rattle.mark_kinds.specs.declared.sectors.Kind.TheVariants.{Gpt as GptKind, Boot as BootKind, FileRecord as RecordKind, Super as SuperKind, Agf as AgfKind, Agi as AgiKind, Btrfs as BtrfsKind, Lvm as LvmKind, Ext as ExtKind, Extinode as ExtinodeKind, Xfs5 as Xfs5Kind, Btrfstree as BtrfstreeKind}
 use Rattle.survey_engine.specs.declared.landmark.GptTable.{GptTable}
 use Rattle.survey_engine.specs.declared.landmark.Landmark.{Landmark}
-use Rattle.survey_engine.specs.declared.landmark.TreeSeen.{TreeSeen}
-use Rattle.survey_engine.specs.declared.landmark.Landmark.TheVariants.{Gpt, Boot, FileRecord, Super, Super5, Agf, Agi, Btrfs, Lvm, Ext, Inode, Tree}
+use Rattle.survey_engine.specs.declared.landmark.Landmark.TheVariants.{Gpt, Boot, FileRecord, Super, Super5, Agf, Agi, Btrfs, Lvm, Ext, Inode, Tree, Inodes, Placed}
 
 -- the kind of a landmark, without its numbers
 abbrev pub kind_of : Landmark → Kind
@@ -41,6 +41,8 @@ kind_of (Lvm n) = LvmKind
 kind_of (Ext x) = ExtKind
 kind_of (Inode i) = Xfs5Kind
 kind_of (Tree t) = BtrfstreeKind
+kind_of (Inodes pair) = ExtinodeKind
+kind_of (Placed pair place) = ExtinodeKind
 
 -- the head of an allocation group of XFS in a sector
 unfoldable pub head_in : List ℕ → Option Landmark
@@ -100,24 +102,26 @@ inode_in s = option_and_then (λ inode. if inode.number % 128 == 0 then Some ino
 abbrev pub untold : TreeBlock → Landmark
 untold block = Tree (record { block = block; told = None; first = None; second = None })
 
--- such an inode, or the tree block of btrfs that begins in a sector
+-- the inode of XFS, the tree block of btrfs that begins in a sector, or two inodes of ext4
 unfoldable pub last_in : List ℕ → Option Landmark
-last_in s = option_or (option_map Inode (inode_in s)) (option_map untold (tree_block s))
+last_in s = option_or (option_map Inode (inode_in s)) (option_or (option_map untold (tree_block s)) (option_map Inodes (any_pair s)))
 
 -- the landmark that a sector is, if it is one, on a disk whose blocks have `unit` sectors. A header of a
 -- partition table is nothing else, wherever it lies, a sector that is a landmark by its front is none of btrfs or
--- ext, an inode is what is none of these, and a tree block of btrfs what is no other landmark
+-- ext, an inode of XFS is what is none of these, a tree block of btrfs what is none of these and no such inode, and two inodes of ext4
+-- what is no other landmark
 unfoldable pub landmark_in : ℕ → List ℕ → Option Landmark
 landmark_in unit s = if is_gpt_header s then table_in unit (gpt_header_of s) else option_or (front_in s) (option_or (inner_in s) (last_in s))
 
--- a landmark says where inodes lie
-abbrev pub has_inodes : Landmark → Bool
-has_inodes (Super5 x places) = true
-has_inodes landmark = false
+-- inodes are looked for of which a landmark says where they lie: a superblock of XFS, or a copy of one of ext
+abbrev pub has_inodes : Kinds → Landmark → Bool
+has_inodes kinds (Super5 x places) = kinds.xfs5
+has_inodes kinds (Ext x) = kinds.extinode
+has_inodes kinds landmark = false
 
 -- a landmark is looked for where its kind is, and also where it says where inodes lie and those are looked for
 abbrev pub is_asked : Kinds → Landmark → Bool
-is_asked kinds landmark = is_group_asked kinds (group_of (kind_of landmark)) || (kinds.xfs5 && has_inodes landmark)
+is_asked kinds landmark = is_group_asked kinds (group_of (kind_of landmark)) || has_inodes kinds landmark
 
 -- a landmark in a sector of an image of that length is a header of the image's own partition table
 abbrev pub is_own : Landmark → ℕ → ℕ → Bool
@@ -142,3 +146,5 @@ IsSound (Lvm n) = n < 2 ^ 55
 IsSound (Ext x) = x.copy_sector < 2 ^ 55
 IsSound (Inode i) = Unit {0}
 IsSound (Tree t) = Unit {0}
+IsSound (Inodes pair) = Unit {0}
+IsSound (Placed pair place) = Unit {0}

@@ -14,19 +14,20 @@ use Rattle.landmark_rules.specs.declared.marks.Group.{Group}
 use Rattle.xfs5.specs.Places.{inode_sector, is_sound as is_sound_place}
 use Rattle.mark_kinds.specs.declared.looking.Kinds.{Kinds}
 use Rattle.mark_kinds.specs.declared.groups.GroupKind.{GroupKind}
-use Rattle.mark_kinds.specs.declared.groups.GroupKind.TheVariants.{Gpt as GptGroup, Ntfs as NtfsGroup, Xfs as XfsGroup, Btrfs as BtrfsGroup, Lvm as LvmGroup, Ext as ExtGroup, Xfs5 as Xfs5Group, Btrfstree as BtrfstreeGroup}
+use Rattle.mark_kinds.specs.declared.groups.GroupKind.TheVariants.{Gpt as GptGroup, Ntfs as NtfsGroup, Xfs as XfsGroup, Btrfs as BtrfsGroup, Lvm as LvmGroup, Ext as ExtGroup, Extinode as ExtinodeGroup, Xfs5 as Xfs5Group, Btrfstree as BtrfstreeGroup}
 use Rattle.landmark_rules.specs.declared.marks.Mark.{Mark}
 use Rattle.landmark_rules.specs.declared.marks.Rule.{Rule}
 use Rattle.landmark_rules.specs.declared.marks.Rule.TheVariants.{At, Either, Every}
 use Rattle.survey_engine.specs.Kept.{kept}
 use Rattle.survey_engine.specs.Landmarks.{kind_of}
 use Rattle.survey_engine.specs.Sightings.{sighted_at, Place}
+use Rattle.survey_engine.specs.declared.landmark.InodePlace.{InodePlace}
 use Rattle.survey_engine.specs.declared.landmark.Landmark.{Landmark}
-use Rattle.survey_engine.specs.declared.landmark.Landmark.TheVariants.{Gpt, Boot, FileRecord, Super, Super5, Agf, Agi, Btrfs as BtrfsSector, Lvm, Ext as ExtSector, Inode, Tree}
+use Rattle.survey_engine.specs.declared.landmark.Landmark.TheVariants.{Gpt, Boot, FileRecord, Super, Super5, Agf, Agi, Btrfs as BtrfsSector, Lvm, Ext as ExtSector, Inode, Tree, Placed}
 use Rattle.survey_engine.specs.declared.landmark.TreeSeen.{TreeSeen}
 use Rattle.survey_engine.specs.declared.owner.ExtVolume.{ExtVolume}
 use Rattle.survey_engine.specs.declared.owner.Owner.{Owner}
-use Rattle.survey_engine.specs.declared.owner.Owner.TheVariants.{Table, Ntfs, Xfs, Btrfs, Label, Ext, Xfs5, Trees}
+use Rattle.survey_engine.specs.declared.owner.Owner.TheVariants.{Table, Ntfs, Xfs, Btrfs, Label, Ext, Xfs5, Trees, Extinode}
 use Rattle.survey_engine.specs.declared.sighting.Sighting.{Sighting}
 
 -- two boot sectors say the same, field by field
@@ -60,6 +61,7 @@ is_same_owner (Label i s) (Label j t) = i == j && s == t
 is_same_owner (Ext a) (Ext b) = is_same_volume a b
 is_same_owner (Xfs5 a) (Xfs5 b) = bytes_eq a.uuid b.uuid
 is_same_owner (Trees a) (Trees b) = bytes_eq a b
+is_same_owner (Extinode a) (Extinode b) = bytes_eq a b
 is_same_owner a b = false
 
 -- the kind of the group that the marks of an owner make
@@ -72,6 +74,7 @@ group_kind (Label image sector) = LvmGroup
 group_kind (Ext volume) = ExtGroup
 group_kind (Xfs5 places) = Xfs5Group
 group_kind (Trees identifier) = BtrfstreeGroup
+group_kind (Extinode identifier) = ExtinodeGroup
 
 -- where a byte of the file system stands that begins a sector
 unfoldable pub begins_sector : ℕ → Bool
@@ -86,8 +89,12 @@ placed_rule (Some a) (Some b) = if begins_sector a && begins_sector b then Some 
 abbrev pub tree_rule : TreeSeen → Option Rule
 tree_rule t = placed_rule t.first t.second
 
+-- where two inodes of ext4 may lie: in the sector in which they are known to lie, below 2^55
+unfoldable pub inodes_rule : InodePlace → Option Rule
+inodes_rule place = if nat_lt place.sector (2 ^ 55) then Some (At place.sector) else None
+
 -- the owner that a landmark at a place names: a partition table, a file system or a physical volume, or None
--- where it does not say. A tree block of btrfs names its file system where it is known where it lies
+-- where it does not say. A tree block of btrfs and two inodes of ext4 name their file system where it is known where they lie
 abbrev pub owner_in : Place → Landmark → Option Owner
 owner_in at (Gpt t) = Some Table
 owner_in at (Boot b) = Some (Ntfs b)
@@ -97,6 +104,7 @@ owner_in at (BtrfsSector b) = Some (Btrfs b.fsid)
 owner_in at (Lvm n) = Some (Label at.image at.sector)
 owner_in at (ExtSector x) = Some (Ext (volume_of x))
 owner_in at (Tree t) = if is_some (tree_rule t) then Some (Trees t.block.identifier) else None
+owner_in at (Placed pair place) = if is_some (inodes_rule place) then Some (Extinode place.identifier) else None
 owner_in at landmark = None
 
 -- the owner of inodes that a landmark names
@@ -139,8 +147,8 @@ ag_rule x g sectors = if nat_lt g x.ag_count then Some (At (g * ag_sectors x + s
 -- of XFS at the start of each group, an AGF one sector and an AGI two sectors after that, a superblock of btrfs
 -- at its own address, a label of LVM2 at the sector that it names, and a copy of a superblock of ext at the start
 -- of its group. File records, AGF and AGI do not say whose they are, and are marks only of an owner that is
--- `alone` of its kind. An inode is a mark of the file system whose identifier it has, and so is a tree block of btrfs,
--- where it is known to lie
+-- `alone` of its kind. An inode of XFS is a mark of the file system whose identifier it has, and so are a tree block of btrfs
+-- and two inodes of ext4, where they are known to lie
 unfoldable pub rule_in : Owner → Bool → Place → Landmark → Option Rule
 rule_in Table alone at (Gpt t) = Some (At (t.unit * t.header.my_lba))
 rule_in (Ntfs b) alone at (Boot c) = if is_same_boot b c then Some (Either 0 b.total) else None
@@ -154,6 +162,7 @@ rule_in (Label image sector) alone at (Lvm n) = if image == at.image && sector =
 rule_in (Ext volume) alone at (ExtSector x) = if is_same_volume volume (volume_of x) then Some (At x.copy_sector) else None
 rule_in (Xfs5 places) alone at (Inode i) = if bytes_eq places.uuid i.uuid then option_map At (inode_sector places i.number) else None
 rule_in (Trees identifier) alone at (Tree t) = if bytes_eq identifier t.block.identifier then tree_rule t else None
+rule_in (Extinode identifier) alone at (Placed pair place) = if bytes_eq identifier place.identifier then inodes_rule place else None
 rule_in owner alone at landmark = None
 
 -- the numbers of an owner are within the limits that the test of its landmark sets

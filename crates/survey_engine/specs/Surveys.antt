@@ -1,5 +1,5 @@
 -- The plan that a survey makes.
-use Rattle.std.specs.Prelude.{ℕ, true, ◌≡◌, ◌+◌, ◌-◌, ◌*◌, ◌^◌, ◌≤◌, ◌<◌, List, length, count_by, slice_index, All, Option}
+use Rattle.std.specs.Prelude.{ℕ, true, ◌≡◌, ◌+◌, ◌-◌, ◌*◌, ◌^◌, ◌≤◌, ◌<◌, List, length, count_by, slice_index, All, Option, if◌then◌else◌}
 use Rattle.std.specs.Option.{option_map_or}
 use Rattle.outside.specs.Attached.{told_all}
 use Rattle.outside.specs.Causes.{Rose}
@@ -11,7 +11,7 @@ use Rattle.search_plan.specs.declared.plan.Plan.{Plan}
 use Rattle.survey_engine.specs.Origins.{is_followed, origins_of}
 use Rattle.survey_engine.specs.Owners.{groups_of}
 use Rattle.survey_engine.specs.Sightings.{counted, sightings}
-use Rattle.survey_engine.specs.Telling.{is_leaf, told}
+use Rattle.survey_engine.specs.Telling.{has_copy, is_leaf, told}
 use Rattle.survey_engine.specs.declared.ask.Ask.{Ask}
 use Rattle.survey_engine.specs.declared.sighting.Sighting.{Sighting}
 use Rattle.survey_engine.specs.declared.planning.SurveyFault.{SurveyFault}
@@ -48,11 +48,19 @@ entries_read told ask attached = option_map_or (λ images. count_by (is_followed
 abbrev pub leaves_read : Option (List (List ℕ)) → Ask → List Image → ℕ
 leaves_read bytes ask attached = option_map_or (λ images. 32 * count_by (is_leaf (lengths_of attached)) (found_in ask attached images)) bytes (32 * 4096)
 
--- the most sectors that it reads: each of each image from the smallest offset to the end once, those of entries, and those of leaves
+-- the most sectors from copies of superblocks of ext on: 256 for each that counts and of which its image has them, where inodes of
+-- ext4 are looked for, and where the bytes are not known 256 * 4,096
+abbrev pub copies_read : Option (List (List ℕ)) → Ask → List Image → ℕ
+copies_read bytes ask attached =
+    option_map_or (λ images. 256 * count_by (has_copy ask.kinds.extinode (lengths_of attached)) (found_in ask attached images)) bytes
+    (if ask.kinds.extinode then 256 * 4096 else 0)
+
+-- the most sectors that it reads: each of each image from the smallest offset to the end once, those of entries, those of leaves, and
+-- those from copies on
 unfoldable pub survey_reads : Ask → List Image → ℕ
 survey_reads ask attached =
     length attached * (ask.end - slice_index ask.bounds.offsets.items 0) + entries_read (told_all attached) ask attached
-    + leaves_read (told_all attached) ask attached
+    + leaves_read (told_all attached) ask attached + copies_read (told_all attached) ask attached
 
 -- what the plan repeats
 pub record Repeats (ask : Ask) (attached : List Image) (plan : Plan) : Type 0 where
@@ -64,9 +72,9 @@ pub record Repeats (ask : Ask) (attached : List Image) (plan : Plan) : Type 0 wh
   pub least : plan.tests.least ≡ ask.tests.least
   pub each : plan.each ≡ ask.each
 
--- what it adds, by the images' bytes: groups of the sightings with what leaves tell of them, and origins
+-- what it adds, by the images' bytes: groups of the sightings with what some tell of others, and origins
 pub record Adds (ask : Ask) (attached : List Image) (images : List (List ℕ)) (plan : Plan) : Type 0 where
-  pub groups : plan.groups ≡ groups_of ask.kinds (told (lengths_of attached) images (found_in ask attached images))
+  pub groups : plan.groups ≡ groups_of ask.kinds (told ask.kinds.extinode (lengths_of attached) images (found_in ask attached images))
   pub origins : plan.tests.origins.items ≡ origins_of ask.tests.origins.items (lengths_of attached) images (found_in ask attached images)
 
 -- a survey ends without a plan where the images failed, and their count of faults rose, or where memory ran out, and

@@ -1,14 +1,19 @@
--- Where leaves of the tree of chunks tell that tree blocks of btrfs lie.
+-- Where leaves of the tree of chunks tell that tree blocks of btrfs lie, and copies of superblocks of ext that inodes of ext4 do.
 use Rattle.std.specs.Prelude.{ℕ, ◌+◌, ◌*◌, Bool, false, true, not, ◌&&◌, ◌==◌, nat_le, nat_lt, List, [], map, fold, Option, Some, None, option_and_then, if◌then◌else◌, slice_get, slice_index, slice_index_or, slice_range}
 use Rattle.std.specs.List.{filter_map, range_with_len}
 use Rattle.std.specs.Option.{option_map, option_map_or}
 use Rattle.std.specs.Str.{bytes_eq}
+use Rattle.inode_marks.specs.Inode.{pair_number}
+use Rattle.inode_marks.specs.Tables.{copied_place, copied_tables}
+use Rattle.inode_marks.specs.declared.inode.InodePair.{InodePair}
+use Rattle.inode_marks.specs.declared.tables.InodeTables.{InodeTables}
 use Rattle.btrfstree.specs.Chunks.{first_place, leaf_chunk, second_place}
 use Rattle.btrfstree.specs.Whole.{is_whole}
 use Rattle.btrfstree.specs.declared.header.TreeBlock.{TreeBlock}
 use Rattle.btrfstree.specs.declared.chunks.Chunk.{Chunk}
+use Rattle.survey_engine.specs.declared.landmark.InodePlace.{InodePlace}
 use Rattle.survey_engine.specs.declared.landmark.Landmark.{Landmark}
-use Rattle.survey_engine.specs.declared.landmark.Landmark.TheVariants.{Tree}
+use Rattle.survey_engine.specs.declared.landmark.Landmark.TheVariants.{Ext, Inodes, Placed, Tree}
 use Rattle.survey_engine.specs.declared.landmark.TreeSeen.{TreeSeen}
 use Rattle.survey_engine.specs.declared.sighting.Sighting.{Sighting}
 use Rattle.survey_engine.specs.declared.telling.Spot.{Spot}
@@ -68,9 +73,10 @@ begins_leaf landmark = false
 unfoldable pub is_leaf : List ℕ → Sighting → Bool
 is_leaf lengths s = begins_leaf s.landmark && nat_le (s.sector + 32) (slice_index lengths s.image)
 
--- a landmark without what leaves told of where it lies, and a sighting of it
+-- a landmark without what was told of where it lies, and a sighting of it
 abbrev pub bare_landmark : Landmark → Landmark
 bare_landmark (Tree tree) = Tree (record { block = tree.block; told = None; first = None; second = None })
+bare_landmark (Placed pair place) = Inodes pair
 bare_landmark landmark = landmark
 
 abbrev pub bare : Sighting → Sighting
@@ -81,9 +87,57 @@ abbrev pub leaf_of : List (List ℕ) → Sighting → List ℕ
 leaf_of images s = slice_range (slice_index_or images s.image []) (512 * s.sector) (512 * s.sector + 16384)
 
 -- a sighting, once another that may be a leaf was read: one that is not whole tells nothing
-unfoldable pub told_by : List ℕ → List (List ℕ) → Sighting → Sighting → Sighting
-told_by lengths images s by = if is_leaf lengths by && is_whole (leaf_of images by) then sighting_with (leaf_of images by) by.landmark s else s
+unfoldable pub told_by_leaf : List ℕ → List (List ℕ) → Sighting → Sighting → Sighting
+told_by_leaf lengths images s by = if is_leaf lengths by && is_whole (leaf_of images by) then sighting_with (leaf_of images by) by.landmark s else s
 
--- the sightings, each with what all leaves among them tell of it
-unfoldable pub told : List ℕ → List (List ℕ) → List Sighting → List Sighting
-told lengths images found = map (λ s. fold (told_by lengths images) s found) found
+-- ---- copies of superblocks of ext
+
+-- where two inodes lie by a copy and the descriptors behind it, if they are two of its file system
+unfoldable pub place_by : List ℕ → InodeTables → InodePair → Option InodePlace
+place_by copy tables pair =
+    option_and_then (λ number. option_map (λ sector. record { identifier = tables.uuid; sector = sector }) (copied_place tables copy number))
+    (pair_number tables.seed tables.inodes pair)
+
+-- two inodes, with their place if that is told
+abbrev pub placed : InodePair → Option InodePlace → Landmark
+placed pair None = Inodes pair
+placed pair (Some place) = Placed pair place
+
+-- a landmark once a copy was read: the first that tells counts; and a sighting of it
+abbrev pub landmark_by_copy : List ℕ → InodeTables → Landmark → Landmark
+landmark_by_copy copy tables (Inodes pair) = placed pair (place_by copy tables pair)
+landmark_by_copy copy tables landmark = landmark
+
+abbrev pub sighting_by_copy : List ℕ → InodeTables → Sighting → Sighting
+sighting_by_copy copy tables s = record { image = s.image; sector = s.sector; landmark = landmark_by_copy copy tables s.landmark }
+
+abbrev pub begins_copy : Landmark → Bool
+begins_copy (Ext x) = true
+begins_copy landmark = false
+
+-- inodes of ext4 are looked for, and a sighting is a copy of which the image has all 256 sectors from it on
+unfoldable pub has_copy : Bool → List ℕ → Sighting → Bool
+has_copy asked lengths s = asked && begins_copy s.landmark && nat_le (s.sector + 256) (slice_index lengths s.image)
+
+-- the bytes of these
+abbrev pub copy_of : List (List ℕ) → Sighting → List ℕ
+copy_of images s = slice_range (slice_index_or images s.image []) (512 * s.sector) (512 * s.sector + 131072)
+
+-- a sighting, once another that may be such a copy was read: one that is not whole, or whose file system has no such inodes, tells nothing
+unfoldable pub told_by_copy : Bool → List ℕ → List (List ℕ) → Sighting → Sighting → Sighting
+told_by_copy asked lengths images s by =
+    if has_copy asked lengths by then option_map_or (λ tables. sighting_by_copy (copy_of images by) tables s) (copied_tables (copy_of images by)) s else s
+
+-- ---- both
+
+-- a sighting, with what another tells of it
+unfoldable pub told_by : Bool → List ℕ → List (List ℕ) → Sighting → Sighting → Sighting
+told_by asked lengths images s by = told_by_copy asked lengths images (told_by_leaf lengths images s by) by
+
+-- the sightings, each with what all of them tell of it
+unfoldable pub told : Bool → List ℕ → List (List ℕ) → List Sighting → List Sighting
+told asked lengths images found = map (λ s. fold (told_by asked lengths images) s found) found
+
+-- the most sectors that are read for what a sighting tells
+unfoldable pub sectors_by : Bool → List ℕ → Sighting → ℕ
+sectors_by asked lengths s = (if is_leaf lengths s then 32 else 0) + (if has_copy asked lengths s then 256 else 0)

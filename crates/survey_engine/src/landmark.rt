@@ -9,11 +9,13 @@ ghost use Rattle.survey_engine.specs.Landmarks.{front_in, has_inodes, head_in, i
 use btrfstree::{TreeBlock, read_block};
 use ext_marks::{ExtSuper, read_ext};
 use gpt_marks::{GptHeader, own_table, read_header};
+use inode_marks::{InodePair, read_any_pair};
 use landmark_rules::Kind;
 use mark_kinds::Kinds;
 use more_marks::{BtrfsSuper, read_btrfs, read_lvm};
 use ntfs_marks::{NtfsBoot, NtfsRecord, read_boot, read_record};
 use sector_fields::{DISTANCE_LIMIT, SECTOR};
+use uuid::Uuid;
 use xfs_marks::{XfsGroup, XfsSuper, read_group, read_super};
 use xfs5::{XfsInode, XfsInodes, read_inode, read_inodes};
 
@@ -45,6 +47,15 @@ pub struct TreeSeen {
     pub second: Option<u64>,
 }
 
+/// Where two inodes of ext4 lie.
+#[derive(Clone, Copy)]
+pub struct InodePlace {
+    /// The identifier of their file system.
+    pub identifier: Uuid,
+    /// The sector of the file system that holds them.
+    pub sector: u64,
+}
+
 /// A landmark sector, with what it says.
 #[derive(Clone, Copy)]
 pub enum Landmark {
@@ -72,12 +83,16 @@ pub enum Landmark {
     Inode(XfsInode),
     /// The first sector of a tree block of btrfs that counts.
     Tree(TreeSeen),
+    /// Two inodes of ext4, of which the second has a number that is a multiple of 32.
+    Inodes(InodePair),
+    /// Two such inodes, with what a copy of a superblock told of where they lie.
+    Placed(InodePair, InodePlace),
 }
 
 /// The landmark in a sector, on a disk whose blocks have `unit` sectors. A header of a partition table is
 /// nothing else, also where it names a sector of 2^55 or more and so is no landmark. A superblock of btrfs or a
-/// copy of one of ext is what is no landmark by its front, an inode what is none of these, and a tree block of btrfs
-/// what is no other landmark.
+/// copy of one of ext is what is no landmark by its front, an inode of XFS what is none of these, a tree block of btrfs
+/// what is no such inode either, and two inodes of ext4 what is no other landmark.
 #[tactic(auto, unfolding(crate::specs::Landmarks::landmark_in, gpt_marks::specs::Header::gpt_header))]
 pub fn read_landmark(sector: &[u8; SECTOR], unit: u64) -> Option<Landmark>
     requires { IsUnit unit }
@@ -178,7 +193,7 @@ fn read_mark(sector: &[u8; SECTOR]) -> Option<XfsInode>
     }
 }
 
-/// An inode of XFS or a tree block of btrfs.
+/// An inode of XFS, a tree block of btrfs, or two inodes of ext4.
 #[tactic(auto, unfolding(crate::specs::Landmarks::last_in))]
 fn read_last(sector: &[u8; SECTOR]) -> Option<Landmark>
     ensures landmark { result ≡ last_in sector.now }
@@ -186,7 +201,10 @@ fn read_last(sector: &[u8; SECTOR]) -> Option<Landmark>
 {
     match read_mark(sector) {
         Some(inode) => Some(Landmark::Inode(inode)),
-        None => find_tree(sector).map(untold),
+        None => match find_tree(sector) {
+            Some(block) => Some(untold(block)),
+            None => read_any_pair(sector).map(Landmark::Inodes),
+        },
     }
 }
 
@@ -282,6 +300,8 @@ impl Landmark {
             Landmark::Ext(_) => Kind::Ext,
             Landmark::Inode(_) => Kind::Xfs5,
             Landmark::Tree(_) => Kind::Btrfstree,
+            Landmark::Inodes(_) => Kind::Extinode,
+            Landmark::Placed(_, _) => Kind::Extinode,
         }
     }
 
@@ -290,15 +310,16 @@ impl Landmark {
     pub fn is_asked(&self, kinds: &Kinds) -> bool
         ensures { result ≡ is_asked kinds.now self.now }
     {
-        kinds.has(self.kind().group()) || (kinds.xfs5 && self.has_inodes())
+        kinds.has(self.kind().group()) || self.has_inodes(kinds)
     }
 
-    /// Whether it says where inodes lie.
-    fn has_inodes(&self) -> bool
-        ensures { result ≡ has_inodes self.now }
+    /// Whether inodes are looked for of which it says where they lie.
+    fn has_inodes(&self, kinds: &Kinds) -> bool
+        ensures { result ≡ has_inodes kinds.now self.now }
     {
         match self {
-            Landmark::Super5(_, _) => true,
+            Landmark::Super5(_, _) => kinds.xfs5,
+            Landmark::Ext(_) => kinds.extinode,
             _ => false,
         }
     }

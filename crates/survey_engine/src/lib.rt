@@ -2,7 +2,7 @@
 //!
 //! [`survey`] sweeps the attached images side by side in sector order. A sector that is a GPT header, an
 //! NTFS boot sector or file record, an XFS superblock, AGF, AGI or inode, a superblock or tree block of btrfs, a label of
-//! LVM2 or a copy of a superblock of ext2 to ext4 is a sighting. Of each kind the first 4,096 count. They make the groups of the
+//! LVM2, a copy of a superblock of ext2 to ext4 or two inodes of ext4 is a sighting. Of each kind the first 4,096 count. They make the groups of the
 //! plan, one for the partition table, one for each file system and one for each label. The entries after a GPT
 //! header say at which volume sectors a file system may begin. The blocks of a partition table have 512 bytes or
 //! 4,096, as is asked.
@@ -11,16 +11,18 @@
 //! image, and each sector once: `specs/Sweep`.
 //!
 //! A tree block of btrfs has its logical address alone. Where that lies is told by leaves of the tree of chunks, which are
-//! read after the sweep: `specs/Telling`.
+//! read after the sweep. An inode of ext4 has not even its number: that, and where the inode lies, is told by a copy of a
+//! superblock of ext and the descriptors behind it: `specs/Telling`.
 //!
 //! What a sector may be stands in `specs/Landmarks`, which are sightings and count in `specs/Sightings`,
 //! groups and the rules of their marks in `specs/Owners`, the origins in `specs/Origins`, and the plan in
 //! `specs/Surveys`. Each filters one list of all sectors; the code looks at each sector once. That no sector is by its
-//! front of two kinds is the law [`no_sector_is_of_two_kinds`]; a superblock of btrfs or ext is what is none of them, an inode what
-//! is none of these, and a tree block what is nothing else.
+//! front of two kinds is the law [`no_sector_is_of_two_kinds`]; a superblock of btrfs or ext is what is none of them, an inode of XFS
+//! what is none of these, a tree block what is no such inode either, and two inodes of ext4 what is nothing else.
 #![tactic(auto)]
 
 mod ask;
+mod copies;
 mod count;
 mod excluding;
 mod gathering;

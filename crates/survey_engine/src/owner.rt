@@ -7,11 +7,11 @@ ghost use Rattle.std.specs.Option.{is_some, option_map};
 ghost use Rattle.landmark_rules.specs.declared.marks.Rule.TheVariants.{At};
 ghost use Rattle.xfs5.specs.Places.{inode_sector, is_sound as is_sound_place};
 ghost use Rattle.survey_engine.specs.Landmarks.{IsSound};
-ghost use Rattle.survey_engine.specs.Owners.{group_kind, ag_rule, inodes_owner, is_same_boot, is_same_owner, is_same_super, is_same_volume, owner_for, owner_in, record_rule, rule_in, start_rule, begins_sector, tree_rule, volume_of, IsSoundOwner};
-ghost use Rattle.survey_engine.specs.declared.owner.Owner.TheVariants.{Trees};
+ghost use Rattle.survey_engine.specs.Owners.{group_kind, ag_rule, inodes_owner, is_same_boot, is_same_owner, is_same_super, is_same_volume, inodes_rule, owner_for, owner_in, record_rule, rule_in, start_rule, begins_sector, tree_rule, volume_of, IsSoundOwner};
+ghost use Rattle.survey_engine.specs.declared.owner.Owner.TheVariants.{Extinode, Trees};
 ghost use Rattle.survey_engine.specs.Sightings.{sighted_at};
 
-use crate::landmark::{Landmark, TreeSeen};
+use crate::landmark::{InodePlace, Landmark, TreeSeen};
 use crate::sighting::Sighting;
 use ext_marks::ExtSuper;
 use landmark_rules::{GroupKind, Rule};
@@ -56,6 +56,8 @@ pub enum Owner {
     Xfs5(XfsInodes),
     /// The tree blocks of the btrfs of this identifier.
     Trees(Uuid),
+    /// The inodes of the ext4 of this identifier.
+    Extinode(Uuid),
 }
 
 impl Owner {
@@ -80,7 +82,7 @@ impl Owner {
         }
     }
 
-    /// The owner that a sighting names, but for inodes. File records, AGF, AGI and inodes do not say whose they are.
+    /// The owner that a sighting names, but for inodes of XFS. File records, AGF, AGI and such inodes do not say whose they are.
     fn named_by(sighting: &Sighting) -> Option<Owner>
         ensures { result ≡ owner_in (sighted_at sighting.now) sighting.now.landmark }
     {
@@ -96,6 +98,7 @@ impl Owner {
             }),
             Landmark::Ext(copy) => Some(Owner::Ext(volume_of(copy))),
             Landmark::Tree(tree) => trees_of(tree),
+            Landmark::Placed(_, place) => extinode_of(place),
             _ => None,
         }
     }
@@ -113,6 +116,7 @@ impl Owner {
             Owner::Ext(_) => GroupKind::Ext,
             Owner::Xfs5(_) => GroupKind::Xfs5,
             Owner::Trees(_) => GroupKind::Btrfstree,
+            Owner::Extinode(_) => GroupKind::Extinode,
         }
     }
 
@@ -135,6 +139,7 @@ impl Owner {
             (Owner::Ext(a), Owner::Ext(b)) => is_same_volume(a, b),
             (Owner::Xfs5(a), Owner::Xfs5(b)) => is_same_uuid(&a.uuid, &b.uuid),
             (Owner::Trees(a), Owner::Trees(b)) => is_same_uuid(a, b),
+            (Owner::Extinode(a), Owner::Extinode(b)) => is_same_uuid(a, b),
             _ => false,
         }
     }
@@ -176,6 +181,8 @@ impl Owner {
                 if is_same_uuid(&places.uuid, &inode.uuid) => inode_rule(places, inode),
             (Owner::Trees(identifier), Landmark::Tree(tree))
                 if is_same_uuid(identifier, &tree.block.identifier) => tree_rule(tree),
+            (Owner::Extinode(identifier), Landmark::Placed(_, place))
+                if is_same_uuid(identifier, &place.identifier) => inodes_rule(place),
             _ => None,
         }
     }
@@ -261,6 +268,29 @@ fn trees_of(tree: &TreeSeen) -> Option<Owner>
 {
     if tree_rule(tree).is_some() {
         Some(Owner::Trees(tree.block.identifier))
+    } else {
+        None
+    }
+}
+
+/// The owner that two inodes of ext4 name.
+fn extinode_of(place: &InodePlace) -> Option<Owner>
+    ensures { result ≡ if is_some (inodes_rule place.now) then Some (Extinode place.now.identifier) else None }
+{
+    if inodes_rule(place).is_some() {
+        Some(Owner::Extinode(place.identifier))
+    } else {
+        None
+    }
+}
+
+/// Where two inodes of ext4 may lie: in the sector in which they are known to lie, below 2^55.
+#[tactic(auto, unfolding(crate::specs::Owners::inodes_rule))]
+fn inodes_rule(place: &InodePlace) -> Option<Rule>
+    ensures { result ≡ inodes_rule place.now }
+{
+    if place.sector < DISTANCE_LIMIT {
+        Some(Rule::At(place.sector))
     } else {
         None
     }

@@ -1,11 +1,13 @@
-//! Where leaves of the tree of chunks tell that tree blocks of btrfs lie.
-ghost use Rattle.std.specs.Prelude.{◌≡◌, ◌*◌, ◌^◌, ◌<◌, if◌then◌else◌, count_by, map, All, IfSome, OnOk, Some};
+//! What sightings tell of others: leaves of the tree of chunks where tree blocks of btrfs lie, and copies of superblocks of
+//! ext where inodes of ext4 do.
+ghost use Rattle.std.specs.Prelude.{◌≡◌, ◌+◌, ◌*◌, ◌^◌, ◌<◌, if◌then◌else◌, count_by, map, All, IfSome, OnOk, Some};
 ghost use Rattle.outside.specs.Attached.{told_all};
 ghost use Rattle.outside.specs.Causes.{HasCause};
 ghost use Rattle.outside.specs.Seen.{OnlyReads, lengths_of};
 ghost use Rattle.survey_engine.specs.Sightings.{AreSightings, IsInImages};
-ghost use Rattle.survey_engine.specs.Telling.{bare, begins_leaf, is_leaf, is_newer, is_other, is_same_number, landmark_with, sighting_with, spot_at, spot_of, told, told_by, with_leaf, with_spot};
+ghost use Rattle.survey_engine.specs.Telling.{bare, begins_leaf, has_copy, is_leaf, is_newer, is_other, is_same_number, landmark_with, sectors_by, sighting_with, spot_at, spot_of, told, told_by, told_by_leaf, with_leaf, with_spot};
 
+use crate::copies::tell_by_copy;
 use crate::landmark::{Landmark, TreeSeen};
 use crate::owner::is_same_uuid;
 use crate::sighting::Sighting;
@@ -33,31 +35,56 @@ pub struct Spot {
     pub second: Option<u64>,
 }
 
-/// Adds to each of the sightings that is a tree block what all leaves of the tree of chunks among them tell of where it
-/// lies. Each of the leaves that its image has whole is read once, 32 sectors.
+/// Adds to each of the sightings what all of them tell of where it lies: of tree blocks the leaves of the tree of chunks,
+/// and of inodes of ext4, where those are `asked`, the copies of superblocks of ext. Each leaf that its image has whole is
+/// read once, 32 sectors, and 256 sectors from each copy on of which the image has them.
 pub fn tell<I: Images>(
     images: &mut I,
     lengths: &[u64],
+    asked: bool,
     found: &mut [Sighting],
 ) -> Result<(), Failed>
     requires found { AreSightings lengths.now found.old }
     requires lengths { lengths.now ≡ lengths_of (I.seen images.old).attached }
     requires short { All (λ n. n < 2 ^ 55) lengths.now }
     ensures told { OnOk result (IfSome (told_all (I.seen images.old).attached)
-        (λ bytes. found.new ≡ told lengths.now bytes found.old)) }
+        (λ bytes. found.new ≡ told asked lengths.now bytes found.old)) }
     ensures sightings { OnOk result (AreSightings lengths.now found.new) }
-    ensures reads { OnlyReads (I.seen images.old) (I.seen images.new) (32 * count_by (is_leaf lengths.now) found.old) }
+    ensures reads { OnlyReads (I.seen images.old) (I.seen images.new)
+        (32 * count_by (is_leaf lengths.now) found.old + 256 * count_by (has_copy asked lengths.now) found.old) }
     ensures cause { HasCause (I.seen images.old).faults (I.seen images.new).faults result }
 {
     for place in 0..found.len() {
         let by = found[place];
-        tell_by(images, lengths, &by, found)?;
+        tell_by(images, lengths, asked, &by, found)?;
     }
     Ok(())
 }
 
-/// Adds to each of the sightings what another tells of it, where that is a leaf that its image has whole.
+/// Adds to each of the sightings what another tells of it.
 fn tell_by<I: Images>(
+    images: &mut I,
+    lengths: &[u64],
+    asked: bool,
+    by: &Sighting,
+    found: &mut [Sighting],
+) -> Result<(), Failed>
+    requires by { IsInImages lengths.now by.now }
+    requires lengths { lengths.now ≡ lengths_of (I.seen images.old).attached }
+    requires short { All (λ n. n < 2 ^ 55) lengths.now }
+    ensures told { OnOk result (IfSome (told_all (I.seen images.old).attached)
+        (λ bytes. found.new ≡ map (λ s. told_by asked lengths.now bytes s by.now) found.old)) }
+    ensures alike { map bare found.new ≡ map bare found.old }
+    ensures reads { OnlyReads (I.seen images.old) (I.seen images.new) (sectors_by asked lengths.now by.now) }
+    ensures cause { HasCause (I.seen images.old).faults (I.seen images.new).faults result }
+{
+    tell_by_leaf(images, lengths, by, found)?;
+    tell_by_copy(images, lengths, asked, by, found)?;
+    Ok(())
+}
+
+/// Adds to each of the sightings what another tells of it, where that is a leaf that its image has whole.
+fn tell_by_leaf<I: Images>(
     images: &mut I,
     lengths: &[u64],
     by: &Sighting,
@@ -67,7 +94,7 @@ fn tell_by<I: Images>(
     requires lengths { lengths.now ≡ lengths_of (I.seen images.old).attached }
     requires short { All (λ n. n < 2 ^ 55) lengths.now }
     ensures told { OnOk result (IfSome (told_all (I.seen images.old).attached)
-        (λ bytes. found.new ≡ map (λ s. told_by lengths.now bytes s by.now) found.old)) }
+        (λ bytes. found.new ≡ map (λ s. told_by_leaf lengths.now bytes s by.now) found.old)) }
     ensures alike { map bare found.new ≡ map bare found.old }
     ensures reads { OnlyReads (I.seen images.old) (I.seen images.new) (if is_leaf lengths.now by.now then 32 else 0) }
     ensures cause { HasCause (I.seen images.old).faults (I.seen images.new).faults result }

@@ -4,7 +4,7 @@ use Rattle.survey_engine.specs.Origins.{AreOrigins}
 use Rattle.survey_engine.specs.Owners.{groups_of}
 use Rattle.survey_engine.specs.Sightings.{AreSightings}
 use Rattle.outside.specs.Seen.{lengths_of}
-use Rattle.survey_engine.proofs.Leaves.{no_leaf_read, survey_read, sweep_read}
+use Rattle.survey_engine.proofs.Told.{none_read, survey_read, sweep_read}
 use Rattle.survey_engine.proofs.Law.{are_groups}
 use Rattle.survey_engine.proofs.Lengths.{are_lengths, are_short, reach_end}
 use Rattle.survey_engine.proofs.planning.survey.Goals as goal
@@ -48,7 +48,7 @@ pub returns-in_err-origins-clause-reads : goal.returns-in_err-origins-clause-rea
 returns-in_err-origins-clause-reads g c =
     let are : AreSightings c.deref.result.now c.in_ok-found.found.items = search rules in
     survey_read (g.I.Images.seen c.args.images.now) (g.I.Images.seen c.gather.new.images) (g.I.Images.seen c.origins.new.images) (g.I.Images.seen c.origins.new.images) c.args.ask.now c.lengths-lengths.result.items c.in_ok-found.found.items
-    (search rules) (search rules) are.few (search rules) (search rules) (no_leaf_read (g.I.Images.seen c.origins.new.images) c.lengths-lengths.result.items c.in_ok-found.found.items)
+    (search rules) (search rules) are.few (search rules) (search rules) (none_read (g.I.Images.seen c.origins.new.images) c.args.ask.now.kinds.extinode c.lengths-lengths.result.items c.in_ok-found.found.items)
 
 pub returns-in_err-map_err-clause-reads : goal.returns-in_err-map_err-clause-reads
 returns-in_err-map_err-clause-reads g c =

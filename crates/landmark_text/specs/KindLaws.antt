@@ -3,9 +3,9 @@
 use Rattle.std.proofs.Common.{◌≡◌, ℕ, ◌+◌, true, List, length, sum, get_or, cond, eqb, refl, sym, ap, ◌∙◌}
 use Rattle.std.specs.List.{list_all}
 use Rattle.mark_kinds.specs.declared.groups.GroupKind.{GroupKind}
-use Rattle.mark_kinds.specs.declared.groups.GroupKind.TheVariants.{Gpt as GptGroup, Ntfs, Xfs, Btrfs as BtrfsGroup, Lvm as LvmGroup, Ext as ExtGroup, Xfs5 as Xfs5Group, Btrfstree as BtrfstreeGroup}
+use Rattle.mark_kinds.specs.declared.groups.GroupKind.TheVariants.{Gpt as GptGroup, Ntfs, Xfs, Btrfs as BtrfsGroup, Lvm as LvmGroup, Ext as ExtGroup, Extinode as ExtinodeGroup, Xfs5 as Xfs5Group, Btrfstree as BtrfstreeGroup}
 use Rattle.mark_kinds.specs.declared.sectors.Kind.{Kind}
-use Rattle.mark_kinds.specs.declared.sectors.Kind.TheVariants.{Gpt, Boot, FileRecord, Super, Agf, Agi, Btrfs, Lvm, Ext, Xfs5, Btrfstree}
+use Rattle.mark_kinds.specs.declared.sectors.Kind.TheVariants.{Gpt, Boot, FileRecord, Super, Agf, Agi, Btrfs, Lvm, Ext, Extinode, Xfs5, Btrfstree}
 use Rattle.value_text.specs.Spelling.{is_plain, IsFieldName}
 use Rattle.landmark_text.specs.Names.{group_name, kind_name}
 
@@ -18,7 +18,8 @@ group_at weight =
     (cond (eqb weight 103) BtrfsGroup
     (cond (eqb weight 111) LvmGroup
     (cond (eqb weight 104) ExtGroup
-    (cond (eqb weight 124) Xfs5Group BtrfstreeGroup))))))
+    (cond (eqb weight 109) ExtinodeGroup
+    (cond (eqb weight 124) Xfs5Group BtrfstreeGroup)))))))
 
 weight_of : List ℕ → ℕ
 weight_of name = get_or name 0 0 + length name
@@ -31,6 +32,7 @@ group_back Xfs = refl
 group_back BtrfsGroup = refl
 group_back LvmGroup = refl
 group_back ExtGroup = refl
+group_back ExtinodeGroup = refl
 group_back Xfs5Group = refl
 group_back BtrfstreeGroup = refl
 
@@ -44,6 +46,7 @@ group_has_no_separator Xfs = refl
 group_has_no_separator BtrfsGroup = refl
 group_has_no_separator LvmGroup = refl
 group_has_no_separator ExtGroup = refl
+group_has_no_separator ExtinodeGroup = refl
 group_has_no_separator Xfs5Group = refl
 group_has_no_separator BtrfstreeGroup = refl
 
@@ -62,7 +65,8 @@ kind_at weight =
     (cond (eqb weight 545) Btrfs
     (cond (eqb weight 335) Lvm
     (cond (eqb weight 337) Ext
-    (cond (eqb weight 390) Xfs5 Btrfstree)))))))))
+    (cond (eqb weight 864) Extinode
+    (cond (eqb weight 390) Xfs5 Btrfstree))))))))))
 
 kind_back : (kind : Kind) → kind_at (sum (kind_name kind)) ≡ kind
 unfolding kind_at
@@ -75,6 +79,7 @@ kind_back Agi = refl
 kind_back Btrfs = refl
 kind_back Lvm = refl
 kind_back Ext = refl
+kind_back Extinode = refl
 kind_back Xfs5 = refl
 kind_back Btrfstree = refl
 
@@ -91,6 +96,7 @@ kind_has_no_separator Agi = refl
 kind_has_no_separator Btrfs = refl
 kind_has_no_separator Lvm = refl
 kind_has_no_separator Ext = refl
+kind_has_no_separator Extinode = refl
 kind_has_no_separator Xfs5 = refl
 kind_has_no_separator Btrfstree = refl
 

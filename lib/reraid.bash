@@ -119,7 +119,7 @@ _reraid_expects() {
         layouts) echo "layouts in this order: near2,near3,near4,far2,far3,far4,offset2,offset3,offset4" ;;
         chunks) echo "powers of two from 1 to 32768, rising, in sectors of 512 bytes: 128 for 64 KiB" ;;
         offsets | origins) echo "numbers, rising, in sectors of 512 bytes: 2048 for 1 MiB" ;;
-        kinds) echo "kinds in this order: gpt,ntfs,xfs,btrfs,lvm,ext,xfs5,btrfstree" ;;
+        kinds) echo "kinds in this order: gpt,ntfs,xfs,btrfs,lvm,ext,extinode,xfs5,btrfstree" ;;
         window | end | sector | step) echo "a number, in sectors of 512 bytes: 2097152 for 1 GiB" ;;
         drop) echo "IMAGE:SECTOR,IMAGE:SECTOR.., rising" ;;
         missing | foreign | badrows | misfits | least | from | size | span | pages | slot | number | rows | images) echo "a number" ;;
@@ -156,7 +156,7 @@ _reraid_value() {
         else
             _reraid_list "$before" "$3" 0 2048 262144 264192
         fi ;;
-        kinds) _reraid_list "$before" "$3" gpt ntfs xfs btrfs lvm ext xfs5 btrfstree ;;
+        kinds) _reraid_list "$before" "$3" gpt ntfs xfs btrfs lvm ext extinode xfs5 btrfstree ;;
     esac
     [[ $3 =~ ^[0-9]+$ ]] || _reraid_say "$before" "$3" "$expects"
 }

@@ -35,7 +35,7 @@ class Expected(unittest.TestCase):
 
     def test_lists(self) -> None:
         self.assertIn("kinds=gpt,xfs", said("survey", "kinds=xfs,gpt"))
-        self.assertIn("kinds are gpt,ntfs,xfs,btrfs,lvm,ext,xfs5,btrfstree, in this order", said("survey", "kinds=zfs"))
+        self.assertIn("kinds are gpt,ntfs,xfs,btrfs,lvm,ext,extinode,xfs5,btrfstree, in this order", said("survey", "kinds=zfs"))
         self.assertIn("chunks=64,128", said("survey", "chunks=128,64"))
         self.assertIn("powers of two", said("survey", "chunks=100"))
         self.assertEqual(said("survey", "chunks=1,32768"), "")

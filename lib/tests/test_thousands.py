@@ -37,6 +37,11 @@ def tree_group(count: int) -> tuple[str, list[tuple[str, int, int, str]]]:
     return "btrfstree", [("btrfstree", 1, 2176 + 128 * number, f"either:{128 * number}:{4096 + 128 * number}") for number in range(count)]
 
 
+def pair_group(count: int) -> tuple[str, list[tuple[str, int, int, str]]]:
+    """A group of so many pairs of inodes of an ext4."""
+    return "extinode", [("extinode", 2, 2176 + 16 * number, f"at:{143 + 16 * number}") for number in range(count)]
+
+
 def surveyed(*counts: int) -> tuple[Plan, Plan]:
     """The plan of a survey, and that of one that looks for inodes too, of which there are groups of so many."""
     return plan_of(XFS, lengths=(8000,) * 3), plan_of(XFS, *map(inode_group, counts), lengths=(8000,) * 3)
@@ -106,6 +111,11 @@ class Thousands(InFolder):
             self.assertEqual([group.place for group in thousands.groups_of(hunt, ZERO, kinds)], places)
         self.assertEqual(thousands.Most(ZERO, plan, plan.groups[2], 14).line(9),
                          "14 of 16 tree blocks of a btrfs lie where the tree of chunks says; at the next set 9 do")
+        plan = plan_of(XFS, pair_group(361), inode_group(13), lengths=(8000,) * 3)
+        self.standin.rows = (("reraid survey", put(plan.text())),)
+        self.assertEqual([group.place for group in thousands.groups_of(hunt, ZERO, ("extinode",))], [1])
+        self.assertEqual(thousands.Most(ZERO, plan, plan.groups[1], 300).line(None),
+                         "300 of 361 inode pairs of an ext4 lie where the descriptors of their groups say")
 
     def attempted(self, hunt: Hunt, whole: bool = False) -> tuple[bool, list[str], list[tuple[Trial, list[str]]]]:
         """Whether the search is at its end, what was said, and the trials with the sets that were tested."""
@@ -175,7 +185,8 @@ class Asked(unittest.TestCase):
 
     def test_known(self) -> None:
         """Only where the program knows the kind and a superblock was seen is anything asked; what is content ends the trials of the aim."""
-        for kinds, groups in ((("xfs5",), ("gpt", "xfs")), (("btrfstree",), ("btrfs",)), (("xfs5", "btrfstree"), ("btrfs", "xfs"))):
+        for kinds, groups in ((("xfs5",), ("gpt", "xfs")), (("btrfstree",), ("btrfs",)), (("xfs5", "btrfstree"), ("btrfs", "xfs")),
+                              (("extinode",), ("ext",))):
             self.assertEqual(self.by_thousands(kinds, groups)[:1], ["survey"])
         for kinds, groups, shapes in (((), ("xfs",), SHAPES), (("extinode",), ("xfs",), SHAPES), (("xfs5",), ("ext",), SHAPES),
                                       (("xfs5",), ("btrfs",), SHAPES), (("btrfstree",), ("xfs",), SHAPES), (("xfs5",), ("xfs",), ())):

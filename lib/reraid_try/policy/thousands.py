@@ -1,5 +1,5 @@
-"""What landmarks tell that a file system has by the thousand, where parity tells nothing: each inode of an XFS, and each tree block of a btrfs, says
-where it lies, and of hundreds most do at the true set alone. Plain shapes are asked for the sets at which the most of them do."""
+"""What landmarks tell that a file system has by the thousand, where parity tells nothing: of each inode of an ext4 or an XFS, and of each tree block
+of a btrfs, it is said where it lies, and of hundreds most do at the true set alone. Plain shapes are asked for the sets at which the most do."""
 
 import dataclasses
 from collections.abc import Sequence
@@ -36,9 +36,10 @@ class Marks:
     says: str
 
 
+PAIRS = Marks("extinode", "ext", "inode pair", "an ext4", "the descriptors of their groups say")
 INODES = Marks("xfs5", "xfs", "inode", "an XFS", "their numbers say")
 TREE_BLOCKS = Marks("btrfstree", "btrfs", "tree block", "a btrfs", "the tree of chunks says")
-ALL = {it.kind: it for it in (INODES, TREE_BLOCKS)}
+ALL = {it.kind: it for it in (PAIRS, INODES, TREE_BLOCKS)}
 
 
 @dataclasses.dataclass(frozen=True)

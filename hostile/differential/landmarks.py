@@ -9,6 +9,7 @@ import zlib
 
 from typing import NamedTuple
 
+import pairs
 import trees
 from inodes import STRETCH, XfsPlaces, xfs_inode, xfs_places
 from texts import FAR, MARKS_OF, SECTOR, Group, Mark
@@ -105,7 +106,7 @@ def xfs5(sector):
 
 READERS = {"gpt": gpt, "boot": boot, "record": record, "super": super_block, "agf": head_of_group(b"XAGF"),
            "agi": head_of_group(b"XAGI"), "lvm": label, "btrfs": btrfs, "ext": ext, "xfs5": xfs5,
-           "btrfstree": trees.tree_block}
+           "btrfstree": trees.tree_block, "extinode": pairs.pair}
 MAGICS = {b"EFI ": "gpt", b"FILE": "record", b"XFSB": "super", b"XAGF": "agf", b"XAGI": "agi", b"LABE": "lvm"}
 
 
@@ -113,7 +114,7 @@ def read(block):
     """The kind of a sector, if it is of one, and its fields. What is of one of the first kinds is of no later one."""
     told = MAGICS.get(block[:4]) or ("boot" if block[3:7] == b"NTFS" else None)
     for kind in (told, "btrfs" if block[64:66] == b"_B" else None, "ext" if block[56:58] == b"\x53\xEF" else None,
-                 "xfs5" if block[:2] == b"IN" else None, "btrfstree"):
+                 "xfs5" if block[:2] == b"IN" else None, "btrfstree", "extinode"):
         found = READERS[kind](block) if kind else None
         if found is not None:
             return kind, found
@@ -131,7 +132,7 @@ def sightings(images, first, end, kinds, passed_over, unit):
     wanted = {kind for asked in kinds for kind in MARKS_OF[asked]}
 
     def is_wanted(kind, found):
-        return kind in wanted or kind == "super" and "xfs5" in wanted and found.places
+        return kind in wanted or kind == "super" and "xfs5" in wanted and found.places or kind == "ext" and "extinode" in wanted
     seen = {kind: [] for kind in READERS}
     for sector in range(first, end):
         for place, image in enumerate(images):
@@ -203,6 +204,17 @@ def tree_groups(seen, images):
     return [Group("btrfstree", marks) for marks in list(groups.values())[:32]]
 
 
+def pair_groups(seen, images):
+    """A group for each identifier of inodes of ext4 of which a copy, read with what follows where it was seen, tells where some lie."""
+    copies = [pairs.tables(images[place][sector * SECTOR:sector * SECTOR + pairs.FOLLOWING]) for sector, place, _ in seen["ext"]]
+    copies, groups = [it for it in copies if it], {}
+    for sector, place, found in seen["extinode"]:
+        told = pairs.placed(copies, found)
+        if told:
+            groups.setdefault(told[0], []).append(Mark("extinode", place, sector, f"at:{told[1]}"))
+    return [Group("extinode", marks) for marks in list(groups.values())[:32]]
+
+
 def groups_of(seen, images, unit, kinds):
     groups = []
     if seen["gpt"]:
@@ -226,5 +238,7 @@ def groups_of(seen, images, unit, kinds):
                file_systems(("super", supers), lambda g: f"every:{g[2] * g[1] // 512}:{g[3]}:0", heads)]
     groups += gathered("btrfs", seen, lambda sector, place, found: found[0], lambda found: found[1] // SECTOR)
     groups += gathered("lvm", seen, lambda sector, place, found: (sector, place), lambda found: found)
-    groups += gathered("ext", seen, lambda sector, place, found: found[0], lambda found: found[1])
+    if "ext" in kinds:
+        groups += gathered("ext", seen, lambda sector, place, found: found[0], lambda found: found[1])
+    groups += pair_groups(seen, images) if "extinode" in kinds else []
     return groups + (xfs5_groups(seen) if "xfs5" in kinds else []) + tree_groups(seen, images)

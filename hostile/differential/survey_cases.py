@@ -6,6 +6,7 @@ import zlib
 from inode_cases import XfsMaker, crowded_inodes, inodes_survey
 from landmarks import BTRFS_PLACES
 from making import EDGES, Case, files_of, shuffled, some_bytes
+from pair_cases import PairMaker, pairs_survey
 from texts import FAR, KINDS, MOST, MOVED, RANKS, SECTOR
 from tree_cases import TreeMaker, crowded_trees, trees_survey
 
@@ -138,13 +139,14 @@ def of_two_kinds(rng, sector, length):
 
 def landmark(rng, sector, length, variety):
     """A sector that is a landmark, mostly."""
-    kind = rng.choice(["gpt", "gpt", "boot", "record", "super", "agf", "agi", "lvm", "btrfs", "ext", "ext", "two", "super5", "xfs5", "tree"])
+    kind = rng.choice(["gpt", "gpt", "boot", "record", "super", "agf", "agi", "lvm", "btrfs", "ext", "ext", "two", "super5", "xfs5", "tree", "pair"])
     block = {"gpt": lambda: gpt_sector(rng, sector, length), "boot": lambda: boot_sector(rng, rng.randrange(variety)),
              "record": lambda: record_sector(rng), "super": lambda: super_sector(rng, rng.randrange(variety)),
              "agf": lambda: head_sector(rng, b"XAGF"), "agi": lambda: head_sector(rng, b"XAGI"),
              "lvm": lambda: label_sector(rng, sector), "btrfs": lambda: btrfs_sector(rng, rng.randrange(variety)),
              "ext": lambda: ext_sector(rng, rng.randrange(variety)), "two": lambda: of_two_kinds(rng, sector, length),
-             "super5": lambda: XfsMaker(rng).superblock(), "xfs5": lambda: XfsMaker(rng).inode(), "tree": lambda: TreeMaker(rng).block()}[kind]()
+             "super5": lambda: XfsMaker(rng).superblock(), "xfs5": lambda: XfsMaker(rng).inode(), "tree": lambda: TreeMaker(rng).block(),
+             "pair": lambda: PairMaker(rng).pair()}[kind]()
     if rng.random() < 0.04:
         at = rng.randrange(SECTOR)
         block = block[:at] + bytes([block[at] ^ 1 << rng.randrange(8)]) + block[at + 1:]
@@ -207,6 +209,8 @@ def survey_case(rng):
         return inodes_survey(rng, survey_operands)
     if way < 0.4:
         return trees_survey(rng, survey_operands)
+    if way < 0.5:
+        return pairs_survey(rng, survey_operands)
     images = [bytearray(some_bytes(rng, rng.choice([0, 1, 2, 3, 40, 60, 64]) * SECTOR) if rng.random() < 0.3 else
                         rng.choice([64, 64, 64, 63, 65, 71, 72]) * SECTOR)
               for _ in range(rng.choice([1, 2, 3, 4, 4, 16, MOST]))]

@@ -404,6 +404,16 @@ def printed(name, constant):
     return bytes.fromhex("".join(re.findall("0x(..)", table)))
 
 
+def sparse(name, constant):
+    """Bytes as a table of fields of that crate has them, each with its place, and zeros between."""
+    text = (pathlib.Path(__file__).resolve().parents[2] / "crates/inode_rows/src" / f"{name}.rt").read_text(encoding="utf-8")
+    table = re.search(rf"const {constant}: &\[Field\] = &\[(.*?)\n\];", text, re.DOTALL)[1]
+    block = bytearray()
+    for place, field in re.findall(r"\(\s*([0-9]+),\s*&\[(.*?)\]", table, re.DOTALL):
+        block = block.ljust(int(place), b"\0") + bytes(int(byte, 0) for byte in re.findall(r"\w+", field))
+    return bytes(block)
+
+
 def inodes():
     """Of groups of 17 blocks of eight inodes, for which numbers have room for 32 blocks, inode 1024 is the first of group 4 and lies nowhere;
     inode 384 is the first of block 16 of group 1, which lies at block 33, of eight sectors each."""
@@ -498,6 +508,41 @@ def tree_blocks():
         later = crc32c(later[32:]).to_bytes(4, "little") + later[4:]
         seen({3: header, 5: later, 40: leaf},
              "group btrfstree\n" + (f"mark btrfstree 0 3 {rule}" if rule else "") + f"mark btrfstree 0 5 {own}mark btrfstree 0 40 {own}")
+
+
+def inode_pairs():
+    """Inodes of file systems of other hands beside each other, and the places that debugfs prints."""
+    asked = {"levels": 0, "members": 2, "patterns": "plain", "syndromes": "none", "chunks": 1, "offsets": 0}
+    words = "survey " + " ".join(f"{name}={value}" for name, value in asked.items()) + " origins=0"
+
+    def seen(there, groups, more="kinds=extinode", length=300):
+        image = bytearray(length * SECTOR)
+        for sector, block in there.items():
+            image[sector * SECTOR:sector * SECTOR + len(block)] = block
+        row(f"{words} {more}", [bytes(image)], out=plan([length], groups=groups, **asked))
+    copy, pair = sparse("ext_copies", "SMALL_COPY"), sparse("ext_copies", "SMALL_PAIR")
+    seeded, other = sparse("ext_copies", "SEEDED_COPY"), sparse("ext_copies", "SEEDED_PAIR")
+    found = "group extinode\nmark extinode 0 9 at:25\n"
+    seen({9: pair, 20: copy}, found)
+    seen({9: pair, 20: copy, 40: other, 41: pair}, found + "mark extinode 0 41 at:25\n")
+    seen({9: other, 20: seeded}, "group extinode\nmark extinode 0 9 at:47\n")
+    seen({7: other, 9: pair, 10: copy, 20: seeded}, "group extinode\nmark extinode 0 7 at:47\n" + found)
+    # no copy that tells: none, one of another file system, passed over, cut off or not whole
+    seen({9: pair}, "")
+    seen({9: other, 20: copy}, "")
+    seen({9: pair, 20: copy}, "", "kinds=extinode drop=0:20")
+    seen({9: pair, 20: copy}, "", length=275)
+    seen({9: pair, 20: copy}, found, length=276)
+    for at, told in ((0, ""), (104, ""), (700, ""), (1023, ""), (1024, ""), (1054, ""), (1279, ""), (1280, found)):
+        changed = copy.ljust(1536, b"\0")
+        seen({9: pair, 20: changed[:at] + bytes([changed[at] ^ 1]) + changed[at + 1:]}, told)
+    # inodes that are changed, or the other way round
+    for change in (pair[:4] + b"\1" + pair[5:], pair[256:].ljust(256, b"\0") + pair[:256], pair[:128] + b"\3" + pair[129:]):
+        seen({9: change, 20: copy}, "")
+    # the copy alone, and with them
+    seen({9: pair, 20: copy}, "group ext\nmark ext 0 20 at:16386\n", "kinds=ext")
+    seen({9: pair, 20: copy}, "group ext\nmark ext 0 20 at:16386\n" + found, "kinds=ext,extinode")
+    row(f"{words} kinds=extinode,ext", [with_sectors(4, {})], status=1, line="word 9 is not understood")
 
 
 # Bounds of a group
@@ -649,7 +694,7 @@ def differs(words, images, text, out, status, line, ends):
 
 
 def main():
-    for rows in (earlier, inodes, tree_blocks, own_bounds, own_offsets, delayed_rows, large_blocks, rescue, near, copies, file_systems, relations):
+    for rows in (earlier, inodes, tree_blocks, inode_pairs, own_bounds, own_offsets, delayed_rows, large_blocks, rescue, near, copies, file_systems, relations):
         rows()
     differing = 0
     for words, *rest in ROWS:

@@ -17,9 +17,9 @@ use Rattle.raid_params.specs.declared.types.Syndrome.{Syndrome}
 use Rattle.raid_params.specs.declared.types.Syndrome.TheVariants.{NoQ, AfterQ, ByData, BySlot}
 use Rattle.raid_params.specs.declared.types.Bounds.{Bounds}
 use Rattle.mark_kinds.specs.declared.groups.GroupKind.{GroupKind}
-use Rattle.mark_kinds.specs.declared.groups.GroupKind.TheVariants.{Gpt as GptGroup, Ntfs as NtfsGroup, Xfs as XfsGroup, Btrfs as BtrfsGroup, Lvm as LvmGroup, Ext as ExtGroup, Xfs5 as Xfs5Group, Btrfstree as BtrfstreeGroup}
+use Rattle.mark_kinds.specs.declared.groups.GroupKind.TheVariants.{Gpt as GptGroup, Ntfs as NtfsGroup, Xfs as XfsGroup, Btrfs as BtrfsGroup, Lvm as LvmGroup, Ext as ExtGroup, Extinode as ExtinodeGroup, Xfs5 as Xfs5Group, Btrfstree as BtrfstreeGroup}
 use Rattle.mark_kinds.specs.declared.sectors.Kind.{Kind}
-use Rattle.mark_kinds.specs.declared.sectors.Kind.TheVariants.{Gpt, Boot, FileRecord, Super, Agf, Agi, Btrfs, Lvm, Ext, Xfs5, Btrfstree}
+use Rattle.mark_kinds.specs.declared.sectors.Kind.TheVariants.{Gpt, Boot, FileRecord, Super, Agf, Agi, Btrfs, Lvm, Ext, Extinode, Xfs5, Btrfstree}
 use Rattle.mark_kinds.proofs.Counts.{few_in_all}
 use Rattle.landmark_rules.specs.Groups.{group_place, marks_in, AreGroups, AreMarkBounds, IsMark}
 use Rattle.landmark_rules.specs.Rules.{IsRule}
@@ -89,6 +89,7 @@ kind_short Agi = lit≤ tt
 kind_short Btrfs = lit≤ tt
 kind_short Lvm = lit≤ tt
 kind_short Ext = lit≤ tt
+kind_short Extinode = lit≤ tt
 kind_short Xfs5 = lit≤ tt
 kind_short Btrfstree = lit≤ tt
 
@@ -99,6 +100,7 @@ group_short XfsGroup = lit≤ tt
 group_short BtrfsGroup = lit≤ tt
 group_short LvmGroup = lit≤ tt
 group_short ExtGroup = lit≤ tt
+group_short ExtinodeGroup = lit≤ tt
 group_short Xfs5Group = lit≤ tt
 group_short BtrfstreeGroup = lit≤ tt
 
@@ -263,22 +265,44 @@ search_short end bounds limits tests near are_bounds are_limits are_tests =
 
 -- ---- marks
 
--- of two numbers of such a product one has 9 digits at most
-small_short : (n : ℕ) → n < 2 ^ 28 → length (decimal n) ≤ 9
-small_short n below = length-decimal-le 9 n (lit< tt) (omega (arith, below)) (omega (arith, below))
+five_digits : (n : ℕ) → n < 10 ^ 5 → length (decimal n) ≤ 5
+five_digits n below = length-decimal-le 5 n (lit< tt) (omega (arith, below)) (omega (arith, below))
 
-factors_short : (step count : ℕ) → step < 2 ^ 55 → count < 2 ^ 55 → step * count < 2 ^ 55 → length (decimal step) + length (decimal count) ≤ 26
+eight_digits : (n : ℕ) → n < 10 ^ 8 → length (decimal n) ≤ 8
+eight_digits n below = length-decimal-le 8 n (lit< tt) (omega (arith, below)) (omega (arith, below))
+
+nine_digits : (n : ℕ) → n < 10 ^ 9 → length (decimal n) ≤ 9
+nine_digits n below = length-decimal-le 9 n (lit< tt) (omega (arith, below)) (omega (arith, below))
+
+twelve_digits : (n : ℕ) → n < 10 ^ 12 → length (decimal n) ≤ 12
+twelve_digits n below = length-decimal-le 12 n (lit< tt) (omega (arith, below)) (omega (arith, below))
+
+-- a factor of such a product, beside one that is not small
+beside : (some step count bound : ℕ) → some ≤ step → step * count < 2 ^ 55 → 2 ^ 55 ≤ some * bound → count < bound
+beside some step count bound large product most = elim (cases_lt count bound) [
+  | inl below ↦ below
+  | inr above ↦ (let least : some * bound ≤ step * count = mul-le-mul large above in absurd (omega (arith, least, product, most)))
+]
+
+-- of two numbers of such a product the one has few digits where the other has many: together they have 22 at most
+factors_short : (step count : ℕ) → step < 2 ^ 55 → count < 2 ^ 55 → step * count < 2 ^ 55 → length (decimal step) + length (decimal count) ≤ 22
 factors_short step count s c product =
-    elim (cases_lt step (2 ^ 28)) [
-      | inl small ↦ omega (arith, small_short step small, sectors_short count c)
+    let turned : count * step < 2 ^ 55 = omega arith in
+    elim (cases_lt step (10 ^ 5)) [
+      | inl small ↦ omega (arith, five_digits step small, sectors_short count c)
       | inr large ↦
-          elim (cases_lt count (2 ^ 28)) [
-            | inl small ↦ omega (arith, sectors_short step s, small_short count small)
-            | inr larger ↦ let most : 2 ^ 28 * 2 ^ 28 ≤ step * count = mul-le-mul large larger in absurd (omega (arith, most, product))
+          elim (cases_lt count (10 ^ 5)) [
+            | inl small ↦ omega (arith, sectors_short step s, five_digits count small)
+            | inr larger ↦
+                elim (cases_lt step (10 ^ 9)) [
+                  | inl middle ↦ omega (arith, nine_digits step middle, twelve_digits count (beside (10 ^ 5) step count (10 ^ 12) large product (lit≤ tt)))
+                  | inr high ↦
+                      omega (arith, twelve_digits step (beside (10 ^ 5) count step (10 ^ 12) larger turned (lit≤ tt)), eight_digits count (beside (10 ^ 9) step count (10 ^ 8) high product (lit≤ tt)))
+                ]
           ]
     ]
 
-rule_short : (rule : Rule) → IsRule rule → length (rule_text rule) ≤ 51
+rule_short : (rule : Rule) → IsRule rule → length (rule_text rule) ≤ 47
 rule_short (At d) is = omega (arith, length-append (codes "at") (58 ∷ decimal d), sectors_short d is)
 rule_short (Either d e) is =
     omega (arith, length-append (codes "either") (58 ∷ (decimal d ++ 58 ∷ decimal e)), length-append (decimal d) (58 ∷ decimal e), sectors_short d is.0, sectors_short e is.1)
@@ -298,7 +322,7 @@ sector_near [] i sector all is = absurd is
 sector_near (n ∷ lengths) zero sector all is = omega (arith, All-head (λ n. n < 2 ^ 55) n lengths all, is)
 sector_near (n ∷ lengths) (suc i) sector all is = sector_near lengths i sector (All-tail (λ n. n < 2 ^ 55) n lengths all) is
 
-mark_short : (lengths : List ℕ) (kind : GroupKind) (mark : Mark) → All (λ n. n < 2 ^ 55) lengths → IsMark lengths kind mark → length (mark_line mark) ≤ 87
+mark_short : (lengths : List ℕ) (kind : GroupKind) (mark : Mark) → All (λ n. n < 2 ^ 55) lengths → IsMark lengths kind mark → length (mark_line mark) ≤ 83
 mark_short lengths kind mark all is =
     let image = decimal mark.image in
     let sector = decimal mark.sector in
@@ -315,7 +339,7 @@ mark_short lengths kind mark all is =
       rule_short mark.rule is.rule,
     )
 
-marks_short : (lengths : List ℕ) (kind : GroupKind) (marks : List Mark) → All (λ n. n < 2 ^ 55) lengths → All (IsMark lengths kind) marks → size (map mark_line marks) ≤ length marks * 88
+marks_short : (lengths : List ℕ) (kind : GroupKind) (marks : List Mark) → All (λ n. n < 2 ^ 55) lengths → All (IsMark lengths kind) marks → size (map mark_line marks) ≤ length marks * 84
 marks_short lengths kind [] all are = omega (arith, size_none)
 marks_short lengths kind (mark ∷ marks) all are =
     omega (
@@ -346,7 +370,7 @@ bounds_size (Some bounds) are =
       sectors_short bounds.least are.least,
     )
 
-group_size : (lengths : List ℕ) (group : Group) → All (λ n. n < 2 ^ 55) lengths → HasMarks lengths group → HasBounds group → size (group_lines group) ≤ 66 + length group.marks * 88
+group_size : (lengths : List ℕ) (group : Group) → All (λ n. n < 2 ^ 55) lengths → HasMarks lengths group → HasBounds group → size (group_lines group) ≤ 66 + length group.marks * 84
 group_size lengths group all are bound =
     omega (
       arith,
@@ -358,7 +382,7 @@ group_size lengths group all are bound =
       marks_short lengths group.kind group.marks all are,
     )
 
-groups_size : (lengths : List ℕ) (groups : List Group) → All (λ n. n < 2 ^ 55) lengths → All (HasMarks lengths) groups → All HasBounds groups → size (flat_map group_lines groups) ≤ length groups * 66 + length (marks_in groups) * 88
+groups_size : (lengths : List ℕ) (groups : List Group) → All (λ n. n < 2 ^ 55) lengths → All (HasMarks lengths) groups → All HasBounds groups → size (flat_map group_lines groups) ≤ length groups * 66 + length (marks_in groups) * 84
 groups_size lengths [] all are bound = omega (arith, size_none)
 groups_size lengths (group ∷ groups) all are bound =
     omega (
@@ -373,19 +397,20 @@ abbrev is_at : ℕ → Group → Bool
 is_at n group = group_place group.kind == n
 
 one_of : (kind : GroupKind) →
-    1 ≤ cond (group_place kind == 0) 1 0 + cond (group_place kind == 1) 1 0 + cond (group_place kind == 2) 1 0 + cond (group_place kind == 3) 1 0 + cond (group_place kind == 4) 1 0 + cond (group_place kind == 5) 1 0 + cond (group_place kind == 6) 1 0 + cond (group_place kind == 7) 1 0
+    1 ≤ cond (group_place kind == 0) 1 0 + cond (group_place kind == 1) 1 0 + cond (group_place kind == 2) 1 0 + cond (group_place kind == 3) 1 0 + cond (group_place kind == 4) 1 0 + cond (group_place kind == 5) 1 0 + cond (group_place kind == 6) 1 0 + cond (group_place kind == 7) 1 0 + cond (group_place kind == 8) 1 0
 one_of GptGroup = lit≤ tt
 one_of NtfsGroup = lit≤ tt
 one_of XfsGroup = lit≤ tt
 one_of BtrfsGroup = lit≤ tt
 one_of LvmGroup = lit≤ tt
 one_of ExtGroup = lit≤ tt
+one_of ExtinodeGroup = lit≤ tt
 one_of Xfs5Group = lit≤ tt
 one_of BtrfstreeGroup = lit≤ tt
 
 -- each group is at the place of its kind
 in_all : (groups : List Group) →
-    length groups ≤ count_by (is_at 0) groups + count_by (is_at 1) groups + count_by (is_at 2) groups + count_by (is_at 3) groups + count_by (is_at 4) groups + count_by (is_at 5) groups + count_by (is_at 6) groups + count_by (is_at 7) groups
+    length groups ≤ count_by (is_at 0) groups + count_by (is_at 1) groups + count_by (is_at 2) groups + count_by (is_at 3) groups + count_by (is_at 4) groups + count_by (is_at 5) groups + count_by (is_at 6) groups + count_by (is_at 7) groups + count_by (is_at 8) groups
 in_all [] = omega arith
 in_all (group ∷ groups) =
     omega (
@@ -398,18 +423,19 @@ in_all (group ∷ groups) =
       sum_by-cons (λ g. cond (is_at 5 g) 1 0) group groups,
       sum_by-cons (λ g. cond (is_at 6 g) 1 0) group groups,
       sum_by-cons (λ g. cond (is_at 7 g) 1 0) group groups,
+      sum_by-cons (λ g. cond (is_at 8 g) 1 0) group groups,
       one_of group.kind,
       in_all groups,
     )
 
-few_groups : (lengths : List ℕ) (groups : List Group) → AreGroups lengths groups → length groups ≤ 256
+few_groups : (lengths : List ℕ) (groups : List Group) → AreGroups lengths groups → length groups ≤ 288
 few_groups lengths groups are =
-    omega (arith, in_all groups, are.few GptGroup, are.few NtfsGroup, are.few XfsGroup, are.few BtrfsGroup, are.few LvmGroup, are.few ExtGroup, are.few Xfs5Group, are.few BtrfstreeGroup)
+    omega (arith, in_all groups, are.few GptGroup, are.few NtfsGroup, are.few XfsGroup, are.few BtrfsGroup, are.few LvmGroup, are.few ExtGroup, are.few ExtinodeGroup, are.few Xfs5Group, are.few BtrfstreeGroup)
 
-few_marks : (lengths : List ℕ) (groups : List Group) → AreGroups lengths groups → length (marks_in groups) ≤ 11 * 4096
+few_marks : (lengths : List ℕ) (groups : List Group) → AreGroups lengths groups → length (marks_in groups) ≤ 12 * 4096
 few_marks lengths groups are = few_in_all (λ (mark : Mark). mark.kind) 4096 (marks_in groups) are.few_marks
 
-groups_short : (lengths : List ℕ) (groups : List Group) → All (λ n. n < 2 ^ 55) lengths → AreGroups lengths groups → size (groups_lines groups) ≤ 256 * 66 + 11 * 4096 * 88 + 5
+groups_short : (lengths : List ℕ) (groups : List Group) → All (λ n. n < 2 ^ 55) lengths → AreGroups lengths groups → size (groups_lines groups) ≤ 288 * 66 + 12 * 4096 * 84 + 5
 groups_short lengths groups all are =
     omega (
       arith,

@@ -167,7 +167,7 @@ survey_is ask attached bytes plan repeats adds =
     let groups = adds.groups in
     let origins = adds.origins in
     let same : plan_with plan.lengths.items plan.end plan.bounds plan.limits plan.tests.origins.items plan.tests.misfits plan.tests.least plan.groups plan.each
-    ≡ plan_with (lengths_of attached) ask.end ask.bounds ask.limits (origins_of ask.tests.origins.items (lengths_of attached) bytes (found_in ask attached bytes)) ask.tests.misfits ask.tests.least (groups_of ask.kinds (told_sightings (lengths_of attached) bytes (found_in ask attached bytes))) ask.each = cc in
+    ≡ plan_with (lengths_of attached) ask.end ask.bounds ask.limits (origins_of ask.tests.origins.items (lengths_of attached) bytes (found_in ask attached bytes)) ask.tests.misfits ask.tests.least (groups_of ask.kinds (told_sightings ask.kinds.extinode (lengths_of attached) bytes (found_in ask attached bytes))) ask.each = cc in
     same
 
 -- and its text

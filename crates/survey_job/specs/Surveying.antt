@@ -46,7 +46,7 @@ survey_plan ask attached images = record {
     misfits = ask.tests.misfits;
     least = ask.tests.least;
   };
-  groups = groups_of ask.kinds (told_sightings (lengths_of attached) images (found_in ask attached images));
+  groups = groups_of ask.kinds (told_sightings ask.kinds.extinode (lengths_of attached) images (found_in ask attached images));
   each = ask.each;
 }
 

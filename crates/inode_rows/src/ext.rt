@@ -7,7 +7,7 @@ use crate::ext_sectors::{
     SMALL_FIRST, SMALL_INODES, SMALL_SECOND, SPREAD_FIRST, SPREAD_SECOND,
 };
 use crc32c::after;
-use inode_marks::{read_pair, read_table, read_tables};
+use inode_marks::{read_any_pair, read_pair, read_table, read_tables};
 
 // The identifier of all of them.
 const UUID: [u8; 16] = [
@@ -47,6 +47,7 @@ fn numbers_of_debugfs(rt: HostRuntime) {
     let seed = after(u32::MAX, &UUID);
     assert!(rt; read_pair(seed, INODES, &SMALL_INODES) == Some(257));
     assert!(rt; read_pair(SEED, INODES, &SEEDED_INODES) == Some(13));
+    assert!(rt; read_any_pair(&SMALL_INODES).is_none() && read_any_pair(&SEEDED_INODES).is_none());
 }
 
 #[test]
@@ -82,7 +83,6 @@ fn tables_of_dumpe2fs(rt: HostRuntime) {
             assert!(rt; tables.inode_sector(275, 257) == 678);
             assert!(rt; tables.group(2048) == 0 && tables.group(2049) == 1);
             assert!(rt; tables.inode_sector(787, 2049) == 1574);
-            assert!(rt; tables.is_mark(257) && tables.is_mark(2049) && !tables.is_mark(259));
         }
         None => assert!(rt; false, "no tables"),
     }

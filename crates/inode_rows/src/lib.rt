@@ -15,6 +15,8 @@ mod checksums;
 #[cfg(test)]
 mod ext;
 #[cfg(test)]
+mod ext_copies;
+#[cfg(test)]
 mod ext_sectors;
 #[cfg(test)]
 mod xfs;

@@ -11,9 +11,9 @@ use Rattle.std.proofs.lemmas.List.Sorted.{IsNonDecreasingBy-short}
 use Rattle.landmark_rules.specs.Groups.{AreGroups, AreMarkBounds, IsMark, group_place, kind_place, mark_place, marks_in, most_groups}
 use Rattle.landmark_rules.specs.declared.marks.Group.{Group}
 use Rattle.mark_kinds.specs.declared.groups.GroupKind.{GroupKind}
-use Rattle.mark_kinds.specs.declared.groups.GroupKind.TheVariants.{Gpt as GptGroup, Ntfs, Xfs, Btrfs, Lvm, Ext, Xfs5, Btrfstree}
+use Rattle.mark_kinds.specs.declared.groups.GroupKind.TheVariants.{Gpt as GptGroup, Ntfs, Xfs, Btrfs, Lvm, Ext, Extinode, Xfs5, Btrfstree}
 use Rattle.mark_kinds.specs.declared.sectors.Kind.{Kind}
-use Rattle.mark_kinds.specs.declared.sectors.Kind.TheVariants.{Gpt, Boot, FileRecord, Super, Agf, Agi, Btrfs as BtrfsMark, Lvm as LvmMark, Ext as ExtMark, Xfs5 as Xfs5Mark, Btrfstree as BtrfstreeMark}
+use Rattle.mark_kinds.specs.declared.sectors.Kind.TheVariants.{Gpt, Boot, FileRecord, Super, Agf, Agi, Btrfs as BtrfsMark, Lvm as LvmMark, Ext as ExtMark, Extinode as ExtinodeMark, Xfs5 as Xfs5Mark, Btrfstree as BtrfstreeMark}
 use Rattle.std.specs.Prelude.{◌==◌, IfSome, IsSomeAnd, count_by}
 use Rattle.landmark_rules.specs.declared.limits.TheConstants.{MOST_MARKS, MOST_ORIGINS}
 use Rattle.raid_params.specs.declared.limits.TheConstants.{LONGEST_DELAY, MOST, MOST_DELAYS, MOST_MISSING, MOST_OFFSETS}
@@ -174,6 +174,7 @@ headers_are lengths second third = record {
     few Btrfs = omega arith
     few Lvm = omega arith
     few Ext = omega arith
+    few Extinode = omega arith
     few Xfs5 = omega arith
     few Btrfstree = omega arith
 
@@ -187,6 +188,7 @@ headers_are lengths second third = record {
     few_marks BtrfsMark = omega arith
     few_marks LvmMark = omega arith
     few_marks ExtMark = omega arith
+    few_marks ExtinodeMark = omega arith
     few_marks Xfs5Mark = omega arith
     few_marks BtrfstreeMark = omega arith
 

@@ -2,11 +2,13 @@
 //!
 //! What each answers was worked out by hand: `products` the sets of a plan by rank, `prefixes` which beginnings of slot
 //! lists may pass, `row_counts` and `many_sets` the rows of sets, `listings` pages, `sampled` what rows that are kept refuse, `surveys` the
-//! plans of images, and `trees` those of tree blocks of btrfs.
+//! plans of images, and `extinodes` and `trees` those of inodes of ext4 and of tree blocks of btrfs.
 //! The tests stand here, since a library with tests is proved a second time with them. Their plans stand in `plans`,
 //! lists and images in `objects`.
 #![tactic(auto)]
 
+#[cfg(test)]
+mod extinodes;
 #[cfg(test)]
 mod listings;
 #[cfg(test)]

@@ -15,3 +15,5 @@ pub mod Begun
 pub mod Keeping
 pub mod Demands
 pub mod Wholes
+pub mod Joints
+pub mod Refused

@@ -1,4 +1,5 @@
 pub mod Equations
+pub mod Joint
 pub mod Prefixes
 pub mod Laws
 pub mod Sampled

@@ -1,12 +1,16 @@
 //! Whether the slots of a set may begin so, by some rows.
-ghost use Rattle.std.specs.Prelude.{ℕ, ◌≡◌, ◌/◌, ◌<◌, ◌≤◌, All, IfSome, IsTrue, Some, false, length};
+ghost use Rattle.std.specs.Prelude.{ℕ, ◌≡◌, ◌/◌, ◌<◌, ◌≤◌, All, IfSome, IsTrue, List, Some, false, length, true};
 ghost use Rattle.std.specs.List.{list_any, range_with_len};
+ghost use Rattle.std.specs.declared.option.Option.{Option as OptionOf};
 ghost use Rattle.raid_params.specs.Slots.{empties};
 ghost use Rattle.raid_params.specs.Validity.{is_valid_head};
+ghost use Rattle.relation_prefix.specs.declared.sampled.SampledRow.{SampledRow as Row};
+ghost use Rattle.relation_prefix.specs.Joint.{AreRefusals};
 ghost use Rattle.relation_prefix.specs.Sampled.{few_refuse as few_rows_refuse, is_raid6 as level_is_raid6, is_untested as nothing_is_tested, may_be_lost as slot_may_be_lost, may_begin as set_may_begin, may_begin_with as set_may_begin_with, may_lose as set_may_lose, refuses as row_refuses, row_allows as equations_allowed, AreRowWeights, CanTest};
 ghost use Rattle.relation_prefix.specs.Ties.{AreThere, FitTies};
 
 use crate::pins::allows;
+use crate::refusals::Refusals;
 use crate::row_ties::RowTies;
 use crate::sampled::{PrefixTest, SampledRow};
 use crate::weights::RowWeights;
@@ -153,6 +157,39 @@ fn is_untested(test: &PrefixTest, slots: &[Option<u8>], empty: usize) -> bool
     test.head.level.redundancy() as usize <= open.min(test.missing as usize)
 }
 
+/// What is known of the rows that refuse a prefix, where a lost slot may still come and there are two images to tell it.
+fn known_refusals(
+    rows: &[SampledRow],
+    weights: &[RowWeights],
+    test: &PrefixTest,
+    slots: &[Option<u8>],
+    empty: usize,
+) -> Option<Refusals>
+    requires can { CanTest test.now.head rows.now weights.now }
+    requires slots { All (λ sampled. AreThere sampled.ties.images slots.now) rows.now }
+    requires short { length slots.now ≤ test.now.head.members }
+    ensures { IfSome result (AreRefusals rows.now test.now slots.now) }
+{
+    let open = slots.len() < test.head.members as usize && test.missing >= 1;
+    if is_raid6(test.head.level) && open && empty == 0 && slots.len() >= 2 {
+        return Some(Refusals::of(rows, weights, test, slots));
+    }
+    None
+}
+
+/// Whether so much is known that more rows refuse a prefix than may be unsound, with this slot alone lost, or none.
+fn is_refused(refusals: &Option<Refusals>, test: &PrefixTest, lost: Option<u8>) -> bool
+    requires few { test.now.head.members ≤ 24 }
+    requires lost { IfSome lost (λ slot. slot < test.now.head.members) }
+    ensures { result ≡ true → (rows : List Row) (slots : List (OptionOf ℕ)) → IfSome refusals.now (AreRefusals rows test.now slots) →
+        few_rows_refuse rows test.now slots lost ≡ false }
+{
+    match refusals {
+        Some(refusals) => refusals.are_many(test, lost),
+        None => false,
+    }
+}
+
 /// Whether the slots of a set may begin so of which this slot alone is lost, or none.
 fn may_begin_with(
     rows: &[SampledRow],
@@ -160,16 +197,20 @@ fn may_begin_with(
     test: &PrefixTest,
     slots: &[Option<u8>],
     empty: usize,
+    refusals: &Option<Refusals>,
     lost: Option<u8>,
 ) -> bool
     requires can { CanTest test.now.head rows.now weights.now }
     requires slots { All (λ sampled. AreThere sampled.ties.images slots.now) rows.now }
     requires short { length slots.now ≤ test.now.head.members }
     requires empty { empty ≡ empties slots.now }
+    requires refusals { IfSome refusals.now (AreRefusals rows.now test.now slots.now) }
     requires lost { IfSome lost (λ slot. slot < test.now.head.members) }
     ensures { result ≡ set_may_begin_with rows.now test.now slots.now lost }
 {
-    may_lose(test, slots, empty, lost) && few_refuse(rows, weights, test, slots, lost)
+    may_lose(test, slots, empty, lost)
+        && !is_refused(refusals, test, lost)
+        && few_refuse(rows, weights, test, slots, lost)
 }
 
 /// Whether they may with some slot that alone is lost.
@@ -179,18 +220,20 @@ fn may_begin_with_one(
     test: &PrefixTest,
     slots: &[Option<u8>],
     empty: usize,
+    refusals: &Option<Refusals>,
 ) -> bool
     requires can { CanTest test.now.head rows.now weights.now }
     requires slots { All (λ sampled. AreThere sampled.ties.images slots.now) rows.now }
     requires short { length slots.now ≤ test.now.head.members }
     requires empty { empty ≡ empties slots.now }
+    requires refusals { IfSome refusals.now (AreRefusals rows.now test.now slots.now) }
     ensures { result ≡ list_any (λ slot. set_may_begin_with rows.now test.now slots.now (Some slot)) (range_with_len 0 test.now.head.members) }
 {
     if !may_lose_one(test, slots, empty) {
         return false;
     }
     for slot in 0..test.head.members {
-        if may_begin_with(rows, weights, test, slots, empty, Some(slot)) {
+        if may_begin_with(rows, weights, test, slots, empty, refusals, Some(slot)) {
             return true;
         }
     }
@@ -210,7 +253,10 @@ pub(crate) fn may_begin(
     ensures { result ≡ set_may_begin rows.now test.now slots.now }
 {
     let empty = count_empty(slots);
-    is_untested(test, slots, empty)
-        || may_begin_with(rows, weights, test, slots, empty, None)
-        || may_begin_with_one(rows, weights, test, slots, empty)
+    if is_untested(test, slots, empty) {
+        return true;
+    }
+    let refusals = known_refusals(rows, weights, test, slots, empty);
+    may_begin_with(rows, weights, test, slots, empty, &refusals, None)
+        || may_begin_with_one(rows, weights, test, slots, empty, &refusals)
 }

@@ -190,7 +190,8 @@ class Rows:
             found += self.at_slots(word, place, images[place], request, Fraction(1, MOST_OLD))
         for image in stale:
             slots = Rows(self.hunt, image).at_slots(word, len(images), image, request, MOST_STALE)
-            found += sorted(slots, key=lambda it: it.told.unsound)[:1]
+            # Ties of the others name it, so it is the one.
+            found += [dataclasses.replace(it, blamed=True) for it in sorted(slots, key=lambda it: it.told.unsound)[:1]]
         return found
 
     def at_slots(self, word: Word, place: int, image: Image, request: Request, most: Fraction) -> list[Old]:

@@ -613,9 +613,9 @@ class Hunts(InFolder):
             self.assertEqual(asked.call_args_list[0][0], (Shape("0", 3), wanted))
 
     def test_zeros_are_asked_of_many_sets(self) -> None:
-        """Of more than eight, once, and those alone are left that they allow; of fewer where it is known already."""
+        """Of more than one, once, and those alone are left that they allow; of one where it is known already."""
         many = [f"5:ls:none:8:{8 * number}:0,1,2" for number in range(9)]
-        for count, known, allowed, asked in ((8, False, 8, 0), (9, False, 1, 1), (2, True, 1, 0), (1, True, 1, 0), (0, True, 0, 0)):
+        for count, known, allowed, asked in ((1, False, 1, 0), (2, False, 1, 1), (9, False, 1, 1), (2, True, 1, 0), (1, True, 1, 0), (0, True, 0, 0)):
             listed = "".join(f"{number} {text}\n" for number, text in enumerate(many[:count]))
 
             def answer(words: list[str], _: str, listed: str = listed) -> Answer:

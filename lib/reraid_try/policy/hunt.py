@@ -24,7 +24,7 @@ from .trials import Trial
 
 
 # Of more sets than these those are left out against which zeros speak, where that can be known.
-FEW_SETS = 8
+FEW_SETS = 1
 
 
 class Hunt:

@@ -183,12 +183,15 @@ def apart_aim(distance: int, numbers: Sequence[int], span: Span) -> Aim:
 
 
 def untied(told: Told, numbers: Sequence[int], span: Span, options: Options) -> list[Aim]:
-    """What is tried of images that nothing ties: RAID 0, and arrays that have lost as many disks as their level bears."""
+    """What is tried of images that nothing ties: RAID 0, and arrays that have lost as many disks as their level bears. That some hold the same in
+    few rows ties none: parity is what the others hold where these are zeros."""
     count = len(numbers)
     shapes = allowed([Shape("0", count), Shape("5", count + 1, 1), Shape("6", count + 2, 2)], options)
-    if told.known or not told.asked or not shapes:
+    if not all(it.family.level == COPIES and not it.family.copies for it in told.known) or not told.asked or not shapes:
         return []
-    return [Aim(tuple(numbers), span, f"nothing ties {ties.named(numbers)}, as at level 0 and where as many disks are lost as a level bears", shapes)]
+    nothing = "nothing but few equal rows ties" if told.known else "nothing ties"
+    why = f"{nothing} {ties.named(numbers)}, as at level 0 and where as many disks are lost as a level bears"
+    return [Aim(tuple(numbers), span, why, shapes)]
 
 
 def with_thousands(aims: Sequence[Aim], untied_aims: Sequence[Aim]) -> list[Aim]:

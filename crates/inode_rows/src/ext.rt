@@ -1,5 +1,6 @@
 //! Inodes of ext4 and their tables, and what makes no pair of inodes.
-ghost use Rattle.std.specs.Prelude.{◌<◌};
+ghost use Rattle.std.specs.Prelude.{◌<◌, ◌≤◌, IsTrue};
+ghost use Rattle.inode_marks.specs.Tables.{is_sound};
 
 use crate::ext_sectors::{
     NARROW_DESCRIPTORS, NARROW_FIRST, NARROW_SECOND, SEEDED_DESCRIPTORS, SEEDED_FIRST,
@@ -7,7 +8,7 @@ use crate::ext_sectors::{
     SMALL_FIRST, SMALL_INODES, SMALL_SECOND, SPREAD_FIRST, SPREAD_SECOND,
 };
 use crc32c::after;
-use inode_marks::{read_any_pair, read_pair, read_table, read_tables};
+use inode_marks::{InodeTables, read_any_pair, read_pair, read_table, read_tables};
 
 // The identifier of all of them.
 const UUID: [u8; 16] = [
@@ -42,6 +43,18 @@ fn changed_over(sector: &[u8; 512]) -> [u8; 512] {
     other
 }
 
+// What a descriptor at a byte of a sector says, if it ends in the sector.
+fn table_at(tables: &InodeTables, group: u32, sector: &[u8; 512], at: usize) -> Option<u64>
+    requires sound { IsTrue (is_sound tables.now) }
+    requires within { at ≤ 512 }
+{
+    if at + tables.descriptor as usize <= 512 {
+        read_table(tables, group, sector, at)
+    } else {
+        None
+    }
+}
+
 #[test]
 fn numbers_of_debugfs(rt: HostRuntime) {
     let seed = after(u32::MAX, &UUID);
@@ -74,11 +87,11 @@ fn tables_of_dumpe2fs(rt: HostRuntime) {
                 tables.block == 1024 && tables.group_inodes == 2048 && tables.descriptor == 64
             );
             assert!(rt; tables.seed == after(u32::MAX, &UUID));
-            assert!(rt; read_table(&tables, 0, &SMALL_DESCRIPTORS, 0) == Some(275));
-            assert!(rt; read_table(&tables, 1, &SMALL_DESCRIPTORS, 64) == Some(787));
-            assert!(rt; read_table(&tables, 3, &SMALL_DESCRIPTORS, 192) == Some(1811));
-            assert!(rt; read_table(&tables, 2, &SMALL_DESCRIPTORS, 64).is_none());
-            assert!(rt; read_table(&tables, 1, &turned(SMALL_DESCRIPTORS, 72), 64).is_none());
+            assert!(rt; table_at(&tables, 0, &SMALL_DESCRIPTORS, 0) == Some(275));
+            assert!(rt; table_at(&tables, 1, &SMALL_DESCRIPTORS, 64) == Some(787));
+            assert!(rt; table_at(&tables, 3, &SMALL_DESCRIPTORS, 192) == Some(1811));
+            assert!(rt; table_at(&tables, 2, &SMALL_DESCRIPTORS, 64).is_none());
+            assert!(rt; table_at(&tables, 1, &turned(SMALL_DESCRIPTORS, 72), 64).is_none());
             assert!(rt; tables.descriptor_byte(1) == 2048 + 64);
             assert!(rt; tables.inode_sector(275, 257) == 678);
             assert!(rt; tables.group(2048) == 0 && tables.group(2049) == 1);
@@ -93,7 +106,7 @@ fn tables_with_a_seed_of_their_own(rt: HostRuntime) {
     match read_tables(&SEEDED_FIRST, &SEEDED_SECOND) {
         Some(tables) => {
             assert!(rt; tables.seed == SEED && tables.block == 4096);
-            assert!(rt; read_table(&tables, 0, &SEEDED_DESCRIPTORS, 0) == Some(41));
+            assert!(rt; table_at(&tables, 0, &SEEDED_DESCRIPTORS, 0) == Some(41));
             assert!(rt; tables.descriptor_byte(0) == 4096);
             assert!(rt; tables.inode_sector(41, 13) == 334);
         }
@@ -106,9 +119,9 @@ fn tables_of_short_descriptors(rt: HostRuntime) {
     match read_tables(&NARROW_FIRST, &NARROW_SECOND) {
         Some(tables) => {
             assert!(rt; tables.descriptor == 32);
-            assert!(rt; read_table(&tables, 0, &NARROW_DESCRIPTORS, 0) == Some(274));
-            assert!(rt; read_table(&tables, 3, &NARROW_DESCRIPTORS, 96) == Some(1810));
-            assert!(rt; read_table(&tables, 2, &NARROW_DESCRIPTORS, 96).is_none());
+            assert!(rt; table_at(&tables, 0, &NARROW_DESCRIPTORS, 0) == Some(274));
+            assert!(rt; table_at(&tables, 3, &NARROW_DESCRIPTORS, 96) == Some(1810));
+            assert!(rt; table_at(&tables, 2, &NARROW_DESCRIPTORS, 96).is_none());
         }
         None => assert!(rt; false, "no tables"),
     }

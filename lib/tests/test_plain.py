@@ -109,11 +109,12 @@ class Aims(unittest.TestCase):
         aim, = plain.untied(Told((), (0, 1, 2), True), range(3), SPAN, ALL)
         self.assertEqual(aim.shapes, (Shape("0", 3), Shape("5", 4, 1), Shape("6", 5, 2)))
         self.assertEqual(plain.untied(Told(), range(3), SPAN, ALL), [])
-        # Some that hold the same in few rows are not tied, and copies are.
+        # Landmarks are asked too where some hold the same in few rows; not of copies.
         few, copies = (Family((0, 1, 2), 51, 8, 900, "10", 0, copies=those) for those in ((), ((0, 1),)))
-        alike, = plain.untied(Told((Known(few),), (), True), range(3), SPAN, ALL)
-        self.assertEqual((alike.shapes, alike.why[:37]), (aim.shapes, "nothing but few equal rows ties image"))
-        self.assertEqual(plain.untied(Told((Known(copies),), (2,), True), range(3), SPAN, ALL), [])
+        for told, shapes in ((Told((), (0, 1, 2), True), aim.shapes), (Told((Known(few),), (), True), aim.shapes), (Told(), ()),
+                             (Told((Known(copies),), (2,), True), ()), (Told((Known(family(3, "5", 0)),), (), True), ())):
+            self.assertEqual(plain.silent(told, range(3), ALL), shapes)
+            self.assertEqual(plain.untied(told, range(3), SPAN, ALL), [] if told.known or not shapes else [aim])
 
     def test_apart(self) -> None:
         """Copies at a distance are one reason for it; files that are stored twice are another, and the line says so."""

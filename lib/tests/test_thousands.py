@@ -192,7 +192,7 @@ class Asked(unittest.TestCase):
                                       (("xfs5",), ("btrfs",), SHAPES), (("btrfstree",), ("xfs",), SHAPES), (("xfs5",), ("xfs",), ())):
             self.assertEqual(self.by_thousands(kinds, groups, shapes), [])
 
-    def asked(self, aims: Sequence[Aim], untied: Sequence[Aim] = ()) -> list[tuple[Shape, ...]]:
+    def asked(self, aims: Sequence[Aim], untied: tuple[Shape, ...] = ()) -> list[tuple[Shape, ...]]:
         """The shapes at which each of these asks them."""
         return [aim.by_thousands for aim in plain.with_thousands(aims, untied)]
 
@@ -200,8 +200,8 @@ class Asked(unittest.TestCase):
         """Once where nothing ties the images, before copies that lie apart are looked for; and of what is tied where parity tells nothing."""
         apart = Aim((0, 1, 2), Span(0, 9), "why", copied=True, apart=2048)
         each = Aim((0, 1, 2), Span(0, 9), "why", (FIVE,), (("mode", "each"),), tied=True)
-        self.assertEqual(self.asked([apart, WHOLE], [WHOLE]), [SHAPES, ()])
-        self.assertEqual(self.asked([each, WHOLE], [WHOLE]), [(), SHAPES])
+        self.assertEqual(self.asked([apart, WHOLE], WHOLE.shapes), [SHAPES, ()])
+        self.assertEqual(self.asked([each, WHOLE], WHOLE.shapes), [(), SHAPES])
         self.assertEqual(self.asked([apart]), [()])
         lost, there, loose = (Aim((0, 1, 2), Span(0, 9), "why", shapes, tied=True)
                               for shapes in ((FIVE,), (Shape("5", 3),), (Shape("6", 4, 1), Shape("6", 4, 2, 1))))

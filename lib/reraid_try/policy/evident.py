@@ -140,7 +140,7 @@ class Evident:
         ways = plain.perhaps_copied, plain.tied, plain.copied, plain.untied
         perhaps, tied, copied, untied = (of(found, part.images, part.span, self.options) for of in ways)
         others = [*self.unlike(asked, found, part), *perhaps[:1], *tied, *perhaps[1:], *copied, *self.alike(part), *untied]
-        return [*self.by_metadata(part), *plain.with_thousands(others, untied)]
+        return [*self.by_metadata(part), *plain.with_thousands(others, plain.silent(found, part.images, self.options))]
 
     def alike(self, part: Part) -> list[Aim]:
         """What is tried where whole images are the same, as the copies of a RAID 1 or 10 are."""

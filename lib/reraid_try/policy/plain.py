@@ -183,26 +183,30 @@ def apart_aim(distance: int, numbers: Sequence[int], span: Span) -> Aim:
 
 
 def untied(told: Told, numbers: Sequence[int], span: Span, options: Options) -> list[Aim]:
-    """What is tried of images that nothing ties: RAID 0, and arrays that have lost as many disks as their level bears. That some hold the same in
-    few rows ties none: parity is what the others hold where these are zeros."""
+    """What is tried of images that nothing ties: RAID 0, and arrays that have lost as many disks as their level bears."""
+    shapes = () if told.known else silent(told, numbers, options)
+    why = f"nothing ties {ties.named(numbers)}, as at level 0 and where as many disks are lost as a level bears"
+    return [Aim(tuple(numbers), span, why, shapes)] if shapes else []
+
+
+def silent(told: Told, numbers: Sequence[int], options: Options) -> tuple[Shape, ...]:
+    """The shapes at which parity tells nothing of images that nothing ties. That some hold the same in few rows ties none: parity is what another
+    disk holds where the others are zeros."""
     count = len(numbers)
-    shapes = allowed([Shape("0", count), Shape("5", count + 1, 1), Shape("6", count + 2, 2)], options)
-    if not all(it.family.level == COPIES and not it.family.copies for it in told.known) or not told.asked or not shapes:
-        return []
-    nothing = "nothing but few equal rows ties" if told.known else "nothing ties"
-    why = f"{nothing} {ties.named(numbers)}, as at level 0 and where as many disks are lost as a level bears"
-    return [Aim(tuple(numbers), span, why, shapes)]
+    if not told.asked or any(it.family.level != COPIES or it.family.copies for it in told.known):
+        return ()
+    return allowed([Shape("0", count), Shape("5", count + 1, 1), Shape("6", count + 2, 2)], options)
 
 
-def with_thousands(aims: Sequence[Aim], untied_aims: Sequence[Aim]) -> list[Aim]:
+def with_thousands(aims: Sequence[Aim], untied_shapes: tuple[Shape, ...]) -> list[Aim]:
     """These aims, of which landmarks by the thousand too are asked, at the shapes at which parity tells nothing: of images that are tied as where as
-    many disks are lost as the level bears, and of the first aim over images that nothing ties. None where each image has an offset of its own."""
-    silent = tuple(shape for aim in untied_aims for shape in aim.shapes)
+    many disks are lost as the level bears, and, at these shapes, of the first aim over images that nothing ties. None where each image has an offset
+    of its own."""
     first = next((aim for aim in aims if not aim.tied and not aim.is_each), None)
 
     def asked(aim: Aim) -> tuple[Shape, ...]:
         """The shapes at which an aim asks them."""
         if aim.tied and not aim.is_each and not aim.shapes[0].parity:
             return tuple(shape for shape in aim.shapes if not shape.parity)
-        return silent if aim is first else ()
+        return untied_shapes if aim is first else ()
     return [dataclasses.replace(aim, by_thousands=asked(aim)) for aim in aims]

@@ -24,11 +24,12 @@ from reraid_try.evidence.shifts import Distances, Shift
 from reraid_try.evidence.tables import Partition, Table
 from reraid_try.evidence.unlike import Unlike
 from reraid_try.options import Options
+from reraid_try.policy import cures
 from reraid_try.policy import evident as evident_module
 from reraid_try.policy.evident import Evident, Later, Part
 from reraid_try.policy.plain import Aim, Span, Unsound
 from reraid_try.policy.shapes import Shape
-from reraid_try.policy.steps import Step, is_of_bad_rows
+from reraid_try.policy.steps import Step, is_of_bad_rows, with_bad_rows
 from reraid_try.policy.trials import Trial
 
 from . import rows
@@ -540,7 +541,8 @@ class Sought(unittest.TestCase):
         with all of them has a sign, where the trial with so many things loosened finds it, 0 of which is one that was there before."""
         it, report = evident([Image(name, number, 900, first=8) for number, name in enumerate("abc")], NoTools({}), Options(("a",), seconds=60))
         setattr(it.search, "say_late", None)
-        true, less = (cast(Any, types.SimpleNamespace(score=Score.WHOLE, word=types.SimpleNamespace(images=those))) for those in ((0, 1, 2), (1,)))
+        true, less = (cast(Any, types.SimpleNamespace(score=score, word=types.SimpleNamespace(images=those)))
+                      for score, those in ((Score.CHECKED, (0, 1, 2)), (Score.WHOLE, (1,))))
         steps: list[Any] = []
 
         def step(asked: Step, hunt: Any) -> bool:
@@ -571,6 +573,13 @@ class Sought(unittest.TestCase):
                 self.assertEqual(steps, [(name, number, (Shape("5", 3),), 60, is_of_bad_rows, why) for number in (1, 2)][:count])
                 self.assertEqual(begun, [([0, 1, 2], {"start": 100, "asked": {"chunks": "8"}, "tied": True})] * (name == "new" and count > 0))
                 self.assertEqual(said, [why] * (count > 0))
+
+    def test_bad_rows(self) -> None:
+        """What is loosened then: rows that may be bad, and what one kind of group needs."""
+        step = with_bad_rows(2, Shape("5", 3))
+        asked = (cures.bad_rows(9, [0]), cures.no_records(), cures.misfits(), cures.delays())
+        self.assertEqual((step.shapes, step.count, step.every), ((Shape("5", 3),), 2, False))
+        self.assertEqual([bool(step.only and step.only(cure)) for cure in asked], [True, True, False, False])
 
     def test_asked_by_one(self) -> None:
         """That the program does not know a command is kept in mind, so one asks all of it, in the whole time of a trial."""

@@ -22,7 +22,7 @@ from reraid_try.checks.verdicts import Finding, Score, Verdict, covered
 from reraid_try.checks.volumes import Region, Room, Source, Volume
 from reraid_try.checks.wholes import Wholes
 from reraid_try.errors import OutsideError
-from reraid_try.units import KIB, MIB, SECTOR
+from reraid_try.units import ALL, KIB, MIB, SECTOR
 from tests.standin import InFolder, Standin, put
 from tests.test_images import ext_super, mbr, superblock
 
@@ -74,6 +74,26 @@ class Logical(unittest.TestCase):
         base = 1000 + 16 * SECTOR
         self.assertEqual([it.name for it in found], ["home"])
         self.assertEqual(found[0].pieces, (Piece(base, 8 * SECTOR), Piece(base + 80 * SECTOR, 24 * SECTOR)))
+
+    def test_pieces_on_another_physical_volume(self) -> None:
+        """They lie behind all that is there, and none may lie before what is; which physical volume is there its label says."""
+        two = LVM.replace("pv0 {\n", 'pv0 {\nid = "abcdef-0123"\n').replace("logical_volumes", "LOGICAL", 1)
+        two = two.replace("}\n}\nLOGICAL", '}\npv1 {\nid = "uvwxyz-4567"\npe_start = 32\n}\n}\nlogical_volumes', 1)
+        moved = two.replace('"pv0", 10', '"pv1", 10')
+        base, length = 1000 + 16 * SECTOR, 8 * SECTOR
+        for text, own, wanted in ((two, "abcdef0123", [(base, base + 80 * SECTOR, False)]), (two, None, [(base, base + 80 * SECTOR, False)]),
+                                  (moved, "abcdef0123", [(base, ALL, True)]), (moved, "uvwxyz4567", []), (two, "uvwxyz4567", [])):
+            found = lvm.logical_volumes(text, 1000, own)
+            self.assertEqual([(*(piece.first for piece in it.pieces), it.spread) for it in found], wanted)
+        self.assertEqual([it.length for it in lvm.logical_volumes(moved, 1000, "abcdef0123")[0].pieces], [length, 3 * length])
+        self.assertEqual([it.said for it in (lvm.Logical("a", ()), lvm.Logical("a", (), True))],
+                         ["logical volume a", "logical volume a, whose end lies on another physical volume"])
+
+    def test_identifier(self) -> None:
+        """Where the label stands in one of the first four sectors."""
+        label = b"LABELONE" + bytes(24) + b"0123456789abcdefghijklmnopqrstuv" + bytes(9)
+        for before, wanted in ((0, label[32:64].decode()), (512, label[32:64].decode()), (4 * SECTOR, None)):
+            self.assertEqual(lvm.identifier(bytes(before) + label), wanted)
 
     def test_no_text(self) -> None:
         for text in ("", "vg {", "vg { physical_volumes { } }", LVM.replace("pe_start = 16", ""), LVM.replace("_count = 1", "_count = x")):

@@ -221,7 +221,7 @@ class ByPlaces(unittest.TestCase):
             taken.append(trial)
             return True
         placement = types.SimpleNamespace(words=lambda *_: ["5:ls:none:16:64:0,1,2"])
-        hunt = types.SimpleNamespace(places=types.SimpleNamespace(best=lambda *_: [placement]), plan=plan_of(NTFS),
+        hunt = types.SimpleNamespace(places_at=lambda _: types.SimpleNamespace(best=lambda *_: [placement]), plan=plan_of(NTFS),
                                      evidence=types.SimpleNamespace(tried=(0, 64), end=900),
                                      asking=types.SimpleNamespace(request=lambda _: BASE))
         said: list[str] = []
@@ -250,7 +250,7 @@ class ByPlaces(unittest.TestCase):
 
         def best(_offsets: Any, chunks: Sequence[int]) -> list[Placement]:
             return [Placement(turn, chunk, 64, (0, 1, 2), 0, 99) for chunk in chunks if chunk in (128, 2048 * 16)]
-        hunt = types.SimpleNamespace(places=types.SimpleNamespace(best=best), plan=plan_of(NTFS),
+        hunt = types.SimpleNamespace(places_at=lambda _: types.SimpleNamespace(best=best), plan=plan_of(NTFS),
                                      evidence=types.SimpleNamespace(tried=(0, 64), end=900), asking=types.SimpleNamespace(request=lambda _: BASE))
         search = types.SimpleNamespace(options=Options(("a",)), say_trial=lambda _, trial, __: trial, take=take, tested=tested)
         first: tuple[list[str], list[str], str] = ["5:la:none:128:64:0,1,2"], [], ""
@@ -264,14 +264,16 @@ class ByPlaces(unittest.TestCase):
             self.assertEqual(asked, wanted)
 
     def test_nothing_that_zeros_allow(self) -> None:
-        """Where parity lies may not be known, or no set be near what zeros say: then nothing is tested. What is known is not asked again."""
-        none = types.SimpleNamespace(best=lambda *_: [])
-        for known, asked, calls in ((None, None, 1), (None, none, 1), (none, None, 0)):
-            hunt = types.SimpleNamespace(places=known, evidence=types.SimpleNamespace(tried=(0,), end=900), ask_places="how")
+        """Where parity lies may not be known, or no set be near what zeros say: then nothing is tested. It is asked of what is tied alone, at its
+        first shape."""
+        none, five = types.SimpleNamespace(best=lambda *_: []), Shape("5", 3)
+        cases: list[tuple[Any, bool, tuple[Shape, ...], list[Shape]]] = [
+            (None, True, (five, Shape("6", 3)), [five]), (none, True, (five,), [five]), (none, False, (five,), []), (none, True, (), [])]
+        for found, tied, shapes, asked in cases:
+            hunt = types.SimpleNamespace(places_at=(ask := mock.Mock(return_value=found)), evidence=types.SimpleNamespace(tried=(0,), end=900))
             it, report = evident([], NoTools({}), Options(("a",)))
-            setattr(it, "places_of", ask := mock.Mock(return_value=asked))
-            self.assertFalse(it.by_places(cast(Any, hunt), Aim((0, 1, 2), Span(0, 900), "why", (Shape("5", 3),), tied=True)))
-            self.assertEqual((report.lines, ask.call_count, hunt.ask_places), ([], calls, None))
+            self.assertFalse(it.by_places(cast(Any, hunt), Aim((0, 1, 2), Span(0, 900), "why", shapes, tied=tied)))
+            self.assertEqual((report.lines, ask.call_args_list), ([], [mock.call(shape) for shape in asked]))
 
     def test_where_data_may_begin(self) -> None:
         """Not behind a row that is tied; of images that are moved by how much later than the first of them, and not before it."""
@@ -593,28 +595,47 @@ class Sought(unittest.TestCase):
             self.assertEqual(evident([], NoTools({}), Options(("a",), seconds=seconds))[0].options.seconds, part)
 
     def test_where_parity_may_lie(self) -> None:
-        """It is asked of what is tied at levels 5 and 6, over what the images of the aim have, and only where the first shape says so."""
+        """It is asked of what is tied at levels 5 and 6, over what the images of the aim have, at the first shape alone."""
         it, _ = evident([Image(name, number, 900 - number, first=8) for number, name in enumerate("abc")], NoTools({}), Options(("a",)))
         asked: list[Any] = []
         setattr(it, "asked", lambda: types.SimpleNamespace(relations=lambda *words: asked.append(words)))
-        five = Aim((0, 2), Span(0, 2000), "why", (Shape("5", 3, 1), Shape("0", 2)), tied=True)
-        each = dataclasses.replace(five, asked=(("mode", "each"),))
-        for aim, wanted in ((five, [((0, 2), 0, 898, 1, ())]), (dataclasses.replace(five, span=Span(100, 500)), [((0, 2), 100, 500, 1, ())]),
-                            (dataclasses.replace(five, images=(0,), span=Span(0, 40 * 16384)), [((0,), 0, 900, 1, ())]),
-                            (dataclasses.replace(each, moved=(16, 8)), [((0, 2), 0, 882, 1, (16, 8))]), (each, []),
-                            (dataclasses.replace(five, shapes=(Shape("0", 2), Shape("5", 3, 1))), []), (dataclasses.replace(five, shapes=()), []),
-                            (dataclasses.replace(five, tied=False), [])):
+        five, zero = Shape("5", 3, 1), Shape("0", 2)
+        aim = Aim((0, 2), Span(0, 2000), "why", (five, zero), tied=True)
+        each = dataclasses.replace(aim, asked=(("mode", "each"),))
+        for of, wanted in ((aim, [((0, 2), 0, 898, 1, ())]), (dataclasses.replace(aim, span=Span(100, 500)), [((0, 2), 100, 500, 1, ())]),
+                           (dataclasses.replace(aim, images=(0,), span=Span(0, 40 * 16384)), [((0,), 0, 900, 1, ())]),
+                           (dataclasses.replace(each, moved=(16, 8)), [((0, 2), 0, 882, 1, (16, 8))]), (each, []),
+                           (dataclasses.replace(aim, shapes=(zero, five)), [])):
             asked.clear()
-            self.assertIsNone(it.places_of(aim))
+            self.assertIsNone(it.places_of(of, of.shapes[0]))
+            self.assertEqual(asked, wanted)
+            self.assertIsNone(it.places_of(of, of.shapes[1]))
             self.assertEqual(asked, wanted)
         setattr(it, "asked", lambda: types.SimpleNamespace(relations=lambda *_: Relations(1, ())))
-        found = it.places_of(dataclasses.replace(five, images=(2, 0)))
+        found = it.places_of(dataclasses.replace(aim, images=(2, 0)), five)
         assert found
         self.assertEqual((found.images, found.level, found.members), ((2, 0), "5", 3))
         long, _ = evident([Image("a", 0, 1 << 20)] * 2, NoTools({}), Options(("a",)))
         setattr(long, "asked", lambda: types.SimpleNamespace(relations=lambda *words: asked.append(words)))
-        long.places_of(Aim((0, 1), Span(0, 1 << 20), "why", (Shape("6", 4, 2),), tied=True))
+        long.places_of(Aim((0, 1), Span(0, 1 << 20), "why", (Shape("6", 4, 2),), tied=True), Shape("6", 4, 2))
         self.assertEqual(asked[-1][3], 64)
+
+    def test_where_parity_may_lie_on_what_nothing_ties(self) -> None:
+        """At each shape that has lost as many disks as its level bears; the rows are asked for once."""
+        it, _ = evident([Image(name, number, 900, first=8) for number, name in enumerate("abc")], NoTools({}), Options(("a",)))
+        asked: list[Any] = []
+
+        def relations(*words: Any) -> Relations:
+            asked.append(words)
+            return Relations(1, ())
+        setattr(it, "asked", lambda: types.SimpleNamespace(relations=relations))
+        shapes = (Shape("0", 3), Shape("5", 4, 1), Shape("6", 5, 2), Shape("6", 4, 1), Shape("5", 3))
+        aim = Aim((0, 1, 2), Span(0, 900), "why", shapes)
+        found = [it.places_of(aim, shape) for shape in shapes]
+        self.assertEqual([places and (places.level, places.members) for places in found], [None, ("5", 4), ("6", 5), None, None])
+        self.assertEqual(len(asked), 1)
+        it.places_of(dataclasses.replace(aim, images=(0, 1)), shapes[1])
+        self.assertEqual([words[0] for words in asked], [(0, 1, 2), (0, 1)])
 
 
 class Unread(unittest.TestCase):

@@ -100,6 +100,28 @@ class Tables(InFolder):
                 return file.read(count)
             self.assertEqual(tables.read_gpt(read, SECTOR), (9999, ()))
 
+    def test_logical_partitions(self) -> None:
+        """They stand in place of the extended one, in the order of its chain: each is counted from its table, the next table from the first one."""
+        disk = bytearray(600 * SECTOR)
+
+        def put_table(at: int, *entries: tuple[int, int, int, int]) -> None:
+            disk[at * SECTOR:(at + 1) * SECTOR] = mbr(*entries)
+        for kind in (5, 0x0F, 0x85):
+            put_table(0, (0, 7, 8, 40), (0, kind, 100, 400))
+            put_table(100, (0, 0x83, 3, 50), (0, 5, 60, 120))
+            put_table(160, (0, 0x82, 1, 20), (0, 5, 200, 90))
+            put_table(300, (0, 0xFD, 2, 10))
+            table = tables.read_table(reader(bytes(disk)), 600)
+            wanted = Partition(8, 40, "07"), Partition(103, 50, "83"), Partition(161, 20, "82"), Partition(302, 10, "fd")
+            self.assertEqual((table.own, table.partitions), (True, wanted))
+        put_table(300, (0, 0xFD, 2, 199), (0, 5, 60, 120))
+        self.assertEqual([it.first for it in tables.read_table(reader(bytes(disk)), 600).partitions], [8, 103, 161])
+        put_table(160, (0, 0x82, 1, 20), (0, 5, 400, 90))
+        self.assertEqual([it.first for it in tables.read_table(reader(bytes(disk)), 600).partitions], [8, 103, 161])
+        for broken in (bytes(SECTOR), mbr((0, 0, 0, 0), (0, 0, 0, 0))):
+            disk[100 * SECTOR:101 * SECTOR] = broken
+            self.assertEqual(tables.read_table(reader(bytes(disk)), 600).partitions[1:], (Partition(100, 400, "85"),))
+
     def test_mbr_of_another_disk(self) -> None:
         data = mbr((0, 7, 2048, 1000))
         self.assertTrue(tables.read_table(reader(data), 3048).own)

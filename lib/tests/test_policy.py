@@ -623,11 +623,11 @@ class Hunts(InFolder):
             hunt, _ = self.hunt(answer)
             places = mock.Mock(allowed=lambda words: [it.offset == 0 for it in words])
             hunt.ask_places = ask = mock.Mock(return_value=places)
-            hunt.places = places if known else None
+            hunt.places = {Shape("5", 3): places} if known else {}
             for _ in range(2):
                 found = hunt.listing(Shape("5", 3), BASE, hunt.plan)
                 self.assertEqual(len(found.sets), allowed)
-            self.assertEqual(ask.call_count, asked)
+            self.assertEqual(ask.call_args_list, [mock.call(Shape("5", 3))] * asked)
             left_out = count - allowed
             self.assertEqual(found.note, f"{left_out} more have parity where zeros are" if left_out else "")
 
@@ -637,7 +637,7 @@ class Hunts(InFolder):
             late = Answer(None, b"1 5:la:none:8:0:0,1,2\n2 5:la:none:8:8:0,1,2\n")
             return put("", 6, "reraid: cursor 1 is past 84") if f"from={LAST}" in words else late
         hunt, _ = self.hunt(answer)
-        hunt.places = mock.Mock(allowed=lambda words: [it.offset == 0 for it in words])
+        hunt.places = {Shape("5", 3): mock.Mock(allowed=lambda words: [it.offset == 0 for it in words])}
         note = "its time of 60 s was up before all were looked at; 1 more have parity where zeros are"
         self.assertEqual(hunt.listing(Shape("5", 3), BASE, hunt.plan).note, note)
 

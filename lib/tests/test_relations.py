@@ -327,6 +327,15 @@ class Chunks(unittest.TestCase):
                     found = relations.read(rows.text(made[::step], 2048 + 16, step), step)
                     self.assertEqual(families.chunk_of(found, range(6 - lost)), (32, 16))
 
+    def test_borders_at_few_places(self) -> None:
+        """Changes that lie at all places, and at each of them in few rows, as an image makes that is of the array here and there, tell no chunk."""
+        made = rows.striped(random.Random(3), 6, 6, 2048, chunk=512)
+        for first in range(24, 2048, 56):
+            made[first:first + 8] = rows.striped(random.Random(first), 6, 6, 8, chunk=8)
+        found = relations.read(rows.text(made[::8], 2048, 8), 8)
+        self.assertGreater(len(list(families.borders(found, frozenset(range(6))))), 20)
+        self.assertIsNone(families.chunk_of(found, range(6)))
+
     def test_level_5(self) -> None:
         """At level 5 the ties are the same in all rows."""
         found = relations.read(rows.text(rows.striped(random.Random(3), 5, 5, 320)), 1)

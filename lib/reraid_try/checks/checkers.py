@@ -142,7 +142,8 @@ class Checkers:
 
     def inner(self, region: Region, volume: Volume, text: str) -> list[Region]:
         """The logical volumes of a physical one, by its text, of which most is there."""
-        found = [Region(f"{region.name} logical volume {it.name}:".strip(), it.pieces) for it in lvm.logical_volumes(text, region.first)]
+        own = lvm.identifier(read_at(volume.path, region.first, lvm.LABEL_SECTORS * SECTOR))
+        found = [Region(f"{region.name} {it.said}:".strip(), it.pieces) for it in lvm.logical_volumes(text, region.first, own)]
         return [it for it in found if it.first < volume.length and
                 (it.there(volume.length) == it.length or lacking(it.length, it.there(volume.length)))]
 

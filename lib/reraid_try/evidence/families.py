@@ -394,14 +394,21 @@ def borders(relations: Relations, images: frozenset[int]) -> Iterator[int]:
             yield after.first
 
 
+def unbroken(relations: Relations, images: frozenset[int], chunk: int, place: int) -> int:
+    """How many rows that lie so far behind a border of chunks have the same ties as one step before, where none of these images is zeros."""
+    return sum(row % chunk == place for rows in relations.tied_rows() if not rows.zero & images
+               for row in range(rows.first + relations.step, rows.last + 1, relations.step))
+
+
 def chunk_of(relations: Relations, images: Iterable[int]) -> tuple[int, int] | None:
-    """The sectors of a chunk, and where in one its borders lie: the longest at which nearly all changes of ties lie at one place. None where ties
-    change nowhere, as at level 5, or at too few places."""
-    places = list(borders(relations, frozenset(images)))
-    if len(places) < LEAST_BORDERS:
+    """The sectors of a chunk, and where in one its borders lie: the longest at which nearly all changes of ties lie at one place, if ties do change in
+    most rows there. None where ties change nowhere, as at level 5, or at too few places."""
+    there = frozenset(images)
+    found = list(borders(relations, there))
+    if len(found) < LEAST_BORDERS:
         return None
     for chunk in CHUNKS:
-        place, count = collections.Counter(it % chunk for it in places).most_common(1)[0]
-        if chunk >= relations.step and count >= PART_AT_BORDERS * len(places):
-            return chunk, place
+        place, count = collections.Counter(it % chunk for it in found).most_common(1)[0]
+        if chunk >= relations.step and count >= PART_AT_BORDERS * len(found):
+            return (chunk, place) if count > unbroken(relations, there, chunk, place) else None
     return None

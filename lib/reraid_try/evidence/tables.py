@@ -1,10 +1,11 @@
 """Partition tables: the MBR, and the GPT with its sums."""
 
 import dataclasses
+import itertools
 import struct
 import uuid
 import zlib
-from collections.abc import Callable
+from collections.abc import Callable, Iterator
 
 from ..units import ALL, LARGE_BLOCK, SECTOR
 
@@ -12,6 +13,8 @@ Read = Callable[[int, int], bytes]
 # An MBR: its four entries of sixteen bytes, and what it ends with.
 FIRST_ENTRY, ENTRY, SIGNATURE = 446, 16, b"\x55\xaa"
 PROTECTIVE, ACTIVE = 0xEE, 0x80
+# The types of extended partitions, which hold logical ones in a chain of tables, of which so many are read.
+EXTENDED, MOST_LOGICAL = ("05", "0f", "85"), 60
 # The type of an EFI system partition, in an MBR and in a GPT: C12A7328-F81F-11D2-BA4B-00A0C93EC93B.
 MBR_EFI, GPT_EFI = "ef", uuid.UUID("c12a7328-f81f-11d2-ba4b-00a0c93ec93b").bytes_le
 # More sectors than an MBR can tell of.
@@ -36,7 +39,8 @@ class Partition:
 
 @dataclasses.dataclass(frozen=True)
 class Table:
-    """What stands at the start of a disk or a volume: what kind of table, whether it says that this has so many sectors, and the partitions."""
+    """What stands at the start of a disk or a volume: what kind of table, whether it says that this has so many sectors, and the partitions, logical
+    ones in place of the extended one that holds them."""
 
     kind: str | None = None
     own: bool = False
@@ -56,6 +60,23 @@ def read_mbr(sector: bytes, room: int = MOST_MBR) -> tuple[Partition, ...]:
             return ()
         found.append(Partition(first, count, f"{kind:02x}"))
     return tuple(found)
+
+
+def logical(read: Read, extended: Partition) -> Iterator[Partition]:
+    """The logical partitions of an extended one. Each table of its chain has two entries that count: a partition, counted from the table, and the
+    next table, counted from the first one; a chain that turns back ends there."""
+    at, end = extended.first, extended.first + extended.count
+    for _ in range(MOST_LOGICAL):
+        sector = read(at * SECTOR, SECTOR)
+        if len(sector) < SECTOR or sector[510:512] != SIGNATURE:
+            return
+        kind, first, count, then, following = struct.unpack_from("<4xB3xII4xB3xI", sector, FIRST_ENTRY)
+        if kind and first and count and at + first + count <= end:
+            yield Partition(at + first, count, f"{kind:02x}")
+        following += extended.first
+        if f"{then:02x}" not in EXTENDED or not at < following < end:
+            return
+        at = following
 
 
 def is_protective(partition: Partition) -> bool:
@@ -92,5 +113,6 @@ def read_table(read: Read, sectors: int) -> Table:
             return Table(f"GPT of {block} bytes", other // ratio == sectors // ratio - 1, partitions)
     partitions = read_mbr(read(0, SECTOR))
     if partitions and not is_protective(partitions[0]):
-        return Table("MBR", all(it.first + it.count <= sectors for it in partitions), partitions)
+        there = (tuple(logical(read, it)) or (it,) if it.kind in EXTENDED else (it,) for it in partitions)
+        return Table("MBR", all(it.first + it.count <= sectors for it in partitions), tuple(itertools.chain.from_iterable(there)))
     return Table()

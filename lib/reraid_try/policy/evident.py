@@ -17,6 +17,7 @@ from ..evidence import gathered, hints, metadata, places, shared, shifts, ties, 
 from ..evidence.families import LEVEL_5, LEVEL_6
 from ..evidence.images import Image
 from ..evidence.places import Places
+from ..evidence.relations import Relations
 from ..evidence.shared import Place
 from ..evidence.shifts import Distances
 from ..evidence.ties import Ties, Told
@@ -72,6 +73,7 @@ class Evident:
         self.options = dataclasses.replace(search.options, seconds=seconds, question=seconds)
         self.searched: list[Part] = []
         self.ties: Ties | None = None
+        self.kept: tuple[Aim, Relations | None] | None = None
 
     def asked(self) -> Ties:
         """Who is asked how the images depend on one another."""
@@ -262,16 +264,23 @@ class Evident:
         like = self.search.images[number].like
         return number if like is None else like
 
-    def places_of(self, aim: Aim) -> Places | None:
-        """Where parity may lie on the images of an aim, by rows of which a part is zeros; None where that cannot be told."""
-        shape = aim.shapes[0] if aim.shapes else None
-        if shape is None or aim.is_each and not aim.moved or shape.levels not in (LEVEL_5, LEVEL_6) or not aim.tied:
+    def places_of(self, aim: Aim, shape: Shape) -> Places | None:
+        """Where parity may lie on the images of an aim at a shape, by rows of which a part is zeros; None where that cannot be told. Of what parity
+        ties that is asked at the first shape, and of other images at those at which as many disks are lost as the level bears."""
+        asked = shape == aim.shapes[0] if aim.tied else not shape.parity
+        if not asked or aim.is_each and not aim.moved or shape.levels not in (LEVEL_5, LEVEL_6):
             return None
-        self.search.report.bar.show("asks in which rows zeros are")
-        end = min(aim.span.end, *(self.search.images[image].sectors for image in aim.images)) - max(aim.moved, default=0)
-        step = max(1, (end - aim.span.first) // places.MOST_ROWS)
-        found = self.asked().relations(aim.images, aim.span.first, end, step, aim.moved)
+        found = self.zero_rows(aim)
         return Places(found, aim.images, shape.levels, shape.members, self.unread(aim)) if found else None
+
+    def zero_rows(self, aim: Aim) -> Relations | None:
+        """The relations of many rows of the images of an aim, kept until others are asked for; None where they were not had in their time."""
+        if self.kept is None or self.kept[0] != aim:
+            self.search.report.bar.show("asks in which rows zeros are")
+            end = min(aim.span.end, *(self.search.images[image].sectors for image in aim.images)) - max(aim.moved, default=0)
+            step = max(1, (end - aim.span.first) // places.MOST_ROWS)
+            self.kept = aim, self.asked().relations(aim.images, aim.span.first, end, step, aim.moved)
+        return self.kept[1]
 
     def unread(self, aim: Aim) -> Iterator[range]:
         """The runs of rows in which maps call a sector of the images of an aim unread."""
@@ -283,11 +292,11 @@ class Evident:
     def by_places(self, hunt: Hunt, aim: Aim) -> bool:
         """The sets that rows of which a part is zeros allow, by where parity lies in them, and where none of these is content those whose parity
         stays for several rows; it says whether a candidate is whole."""
-        hunt.places, hunt.ask_places = hunt.places or self.places_of(aim), None
-        if hunt.places is None:
+        where = hunt.places_at(aim.shapes[0]) if aim.tied and aim.shapes else None
+        if where is None:
             return False
         before = len(self.search.tested)
-        return self.placed(hunt, aim, hunt.places) or not self.is_content(before) and self.placed(hunt, aim, hunt.places, cures.DELAY)
+        return self.placed(hunt, aim, where) or not self.is_content(before) and self.placed(hunt, aim, where, cures.DELAY)
 
     def placed(self, hunt: Hunt, aim: Aim, where: Places, delay: int = 1) -> bool:
         """The sets that these places allow, with parity that stays for so many rows; it says whether a candidate is whole."""

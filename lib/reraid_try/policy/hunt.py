@@ -45,8 +45,8 @@ class Hunt:
         self.tried: set[str] = set()
         self.cut_short: set[str] = set()
         self.passed_over = 0
-        self.places: Places | None = None
-        self.ask_places: Callable[[], Places | None] | None = None
+        self.places: dict[Shape, Places | None] = {}
+        self.ask_places: Callable[[Shape], Places | None] | None = None
 
     @property
     def shapes(self) -> Shapes:
@@ -97,13 +97,18 @@ class Hunt:
         found = self.questions.climb(plan) if self.questions.has_bad_rows(plan, shape) else self.program.listing(plan)
         if not found.whole and len(found.sets) < MOST_LINES:
             self.cut_short.add(plan.text())
-        if self.places is None and self.ask_places and len(found.sets) > FEW_SETS:
-            self.places, self.ask_places = self.ask_places(), None
-        if self.places is None or not found.sets:
+        places = self.places_at(shape, few=len(found.sets) <= FEW_SETS)
+        if places is None or not found.sets:
             return found
-        kept = tuple(itertools.compress(found.sets, self.places.allowed([self.word(it.text) for it in found.sets])))
+        kept = tuple(itertools.compress(found.sets, places.allowed([self.word(it.text) for it in found.sets])))
         told = f"{len(found.sets) - len(kept)} more have parity where zeros are" if len(kept) < len(found.sets) else ""
         return dataclasses.replace(found, sets=kept, note="; ".join(filter(None, [found.note, told])))
+
+    def places_at(self, shape: Shape, few: bool = False) -> Places | None:
+        """Where parity may lie on the images at a shape; of few sets only what is known of it."""
+        if not few and self.ask_places and shape not in self.places:
+            self.places[shape] = self.ask_places(shape)
+        return self.places.get(shape)
 
     def ask_again(self) -> None:
         """What was listed in too short a time may be listed once more."""

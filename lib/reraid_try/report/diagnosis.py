@@ -133,7 +133,7 @@ class Diagnosis:
     def none_near(self, was_late: bool) -> str:
         """What is said where no set is near."""
         if not self.shapes():
-            return "none by parity, of which what was searched has none"
+            return "parity rules no set out at the levels and with the lost disks that were searched, so no set can be called near by it"
         if was_late:
             return "no set is known to be near, as not all was looked at (--time gives more)"
         return "no set is near: landmarks and parity each allow none"

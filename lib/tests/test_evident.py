@@ -674,7 +674,7 @@ class Evidence(unittest.TestCase):
 
     def test_in_which_order(self) -> None:
         """Metadata; data that begin at unlike sectors; two images that may be copies, few missing; families; such images, more missing; copies; whole
-        images that are the same; what nothing ties."""
+        images that are the same; copies without an image; what nothing ties."""
         it, _ = evident([Image(name, number, 300, first=0) for number, name in enumerate("abc")], Standin({}, Answer(None)), Options(("a",)))
 
         def aims(why: str) -> Any:
@@ -682,9 +682,10 @@ class Evidence(unittest.TestCase):
             return lambda *_: [Aim((0, 1, 2), Span(0, 300), why, (Shape("0", 3),))] * count
         with mock.patch.multiple(it, unlike=aims("unlike"), alike=aims("alike"), by_metadata=aims("metadata")), \
                 mock.patch.multiple("reraid_try.policy.evident.plain", perhaps_copied=aims("perhaps"), tied=aims("tied"), copied=aims("copied"),
+                                    without_one=lambda them, _: [dataclasses.replace(aim, why=f"{aim.why} without") for aim in them],
                                     untied=aims("untied")):
             self.assertEqual([aim.why for aim in it.aims(Part((0, 1, 2), Span(0, 300)))],
-                             ["metadata", "unlike", "perhaps", "tied", "perhaps", "copied", "alike", "untied"])
+                             ["metadata", "unlike", "perhaps", "tied", "perhaps", "copied", "alike", "copied without", "untied"])
 
     def test_how_many_are_alike(self) -> None:
         """As many as most of the images that have their like; one where none has."""

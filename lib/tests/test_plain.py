@@ -91,6 +91,18 @@ class Aims(unittest.TestCase):
         self.assertEqual(plain.perhaps_copied(told, range(3), SPAN, ALL), [])
         self.assertEqual(plain.tied(told, range(3), SPAN, ALL), [])
 
+    def test_copies_beside_a_foreign_image(self) -> None:
+        """One that nothing ties is left out, or one of three that hold the same; none where hardly more than copies would be left."""
+        pair, three = (Known(Family(images, 900, 8, 900, "10", 0, copies=((0, 2),))) for images in ((0, 2), (0, 2, 3)))
+        for told, count, wanted in ((Told((pair,), (1, 3), True), 4, [(0, 2, 3), (0, 1, 2)]),
+                                    (Told((three,), (), True), 4, [(1, 2, 3), (0, 1, 3), (0, 1, 2)]),
+                                    (Told((pair,), (), True), 4, []), (Told((pair,), (1,), True), 3, [])):
+            found = plain.without_one(plain.copied(told, range(count), SPAN, ALL), told)
+            self.assertEqual([aim.images for aim in found], wanted)
+            self.assertEqual({(aim.copied, aim.missing) for aim in found}, {(True, (0, 1))} if wanted else set())
+        self.assertEqual(plain.without_one(plain.copied(Told((pair,), (1, 3), True), range(4), SPAN, ALL), Told((), (1,)))[0].why,
+                         "images 0 and 2 hold the same; image 1 may be foreign or a bad copy, so it is left out")
+
     def test_two_images_that_are_the_same_in_some_rows(self) -> None:
         """Copies of a RAID 10, as is tried first, or what level 5 has of three disks of which one is lost."""
         told = Told((Known(Family((0, 2), 500, 8, 900, "5", 0)),), (1,), True)

@@ -401,8 +401,8 @@ def unbroken(relations: Relations, images: frozenset[int], chunk: int, place: in
 
 
 def chunk_of(relations: Relations, images: Iterable[int]) -> tuple[int, int] | None:
-    """The sectors of a chunk, and where in one its borders lie: the longest at which nearly all changes of ties lie at one place, if ties do change in
-    most rows there. None where ties change nowhere, as at level 5, or at too few places."""
+    """The sectors of a chunk, and where in one its borders lie: the longest at which nearly all changes of ties lie at one place, if ties do change
+    in most rows there. None where ties change nowhere, as at level 5, or at too few places."""
     there = frozenset(images)
     found = list(borders(relations, there))
     if len(found) < LEAST_BORDERS:

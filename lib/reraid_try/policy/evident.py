@@ -141,7 +141,8 @@ class Evident:
         self.search.reshapes += [it.family.reshape for it in found.known if it.family.reshape and it.family.reshape not in self.search.reshapes]
         ways = plain.perhaps_copied, plain.tied, plain.copied, plain.untied
         perhaps, tied, copied, untied = (of(found, part.images, part.span, self.options) for of in ways)
-        others = [*self.unlike(asked, found, part), *perhaps[:1], *tied, *perhaps[1:], *copied, *self.alike(part), *untied]
+        others = [*self.unlike(asked, found, part), *perhaps[:1], *tied, *perhaps[1:], *copied, *self.alike(part), *plain.without_one(copied, found),
+                  *untied]
         return [*self.by_metadata(part), *plain.with_thousands(others, plain.silent(found, part.images, self.options))]
 
     def alike(self, part: Part) -> list[Aim]:

@@ -18,6 +18,8 @@ from .shapes import Shape
 
 # So many members are missing in what may be RAID 10 before what parity ties is tried, and so many in what may be one after it.
 FEW_MISSING, MORE_MISSING = (0, 1), tuple(range(2, MOST_MISSING + 1))
+# So few images are left of a RAID 10 that is more than copies.
+LEAST_STRIPED = 3
 # Where ties leave an image out in no more than one of so many tied rows, that may be bad areas in place of an old disk.
 FEW_LEFT_OUT = 4
 
@@ -173,6 +175,19 @@ def copied_by(known: Iterable[Known], numbers: Sequence[int], span: Span, option
     if not found or not options.wants(COPIES):
         return []
     return [Aim(tuple(numbers), span, "; ".join(ties.lines(Told(found, asked=True))), copied=True)]
+
+
+def without_one(aims: Iterable[Aim], told: Told) -> list[Aim]:
+    """These aims with one image left out: one that nothing ties, which may be foreign, and then one of three that hold the same, which may be a bad
+    copy."""
+    several = sorted(image for it in told.known if it.family.level == COPIES and len(it.family.images) > 2 for image in it.family.images)
+    found = []
+    for aim in aims:
+        for image in (*told.alone, *several) if len(aim.images) > LEAST_STRIPED else ():
+            rest = tuple(it for it in aim.images if it != image)
+            why = f"{aim.why}; image {image} may be foreign or a bad copy, so it is left out"
+            found.append(dataclasses.replace(aim, images=rest, why=why, missing=FEW_MISSING))
+    return found
 
 
 def apart_aim(distance: int, numbers: Sequence[int], span: Span) -> Aim:

@@ -643,7 +643,7 @@ class Unread(unittest.TestCase):
 
     def test_rows(self) -> None:
         """Those of the images of an aim, each moved by its offset."""
-        maps = [None, Map("b.map", "", ((0, 5120, "+"), (5120, 512, "-"))), Map("c.map", "", ((0, 1024, "*"), (1024, 90000, "+")))]
+        maps = [None, Map("b.map", "", ((0, 5120, "+"), (5120, 512, "-"), (5632, 90000, "+"))), Map("c.map", "", ((0, 1024, "*"), (1024, 90000, "+")))]
         images = [Image(name, number, 100, map=it) for number, (name, it) in enumerate(zip("abc", maps))]
         found, _ = evident(images, NoTools({}), Options(("a",)))
         for numbers, moved, gaps in (((0, 1, 2), (), [range(10, 11), range(0, 2)]), ((0, 1), (), [range(10, 11)]), ((2, 0), (), [range(0, 2)]),

@@ -136,7 +136,7 @@ class OnImages(InFolder):
             hints.read_at(f"{self.folder}/none", 0)
 
     def test_bad_rows(self) -> None:
-        seen = [image(0), image(1, map=Map("m", "", ((0, 1024, "+"), (1024, 512, "-"))))]
+        seen = [image(0), image(1, map=Map("m", "", ((0, 1024, "+"), (1024, 512, "-"), (1536, 1 << 20, "+"))))]
         self.assertEqual([(hint.value, hint.what) for hint in hints.bad_rows(seen, 100)], [(2, What.BAD_ROWS)])
         self.assertEqual(hints.bad_rows(seen, 1), [])
 
@@ -210,7 +210,7 @@ class Gathered(InFolder):
         self.assertEqual(found.tried, (0, 2048, 4096))
 
     def test_maps(self) -> None:
-        few, many = Map("m", "", ((0, 512 * 99, "-"),)), Map("m", "", ((0, 512 * 999, "-"),))
+        few, many = (Map("m", "", ((0, 512 * count, "-"), (512 * count, 1 << 30, "+"))) for count in (99, 999))
         self.assertEqual([self.gather(self.plan(), map=it).unread for it in (few, many)], [300, 0])
         self.assertEqual(self.gather(self.plan(), map=many).bad, 3000)
 

@@ -250,13 +250,21 @@ class Maps(InFolder):
         found = maps.read_map(name)
         self.assertEqual(found.blocks, ((0, 1024, "+"), (1024, 513, "-"), (1537, 512, "*")))
         # 513 bytes touch three sectors at most, 512 that begin inside of one touch two.
-        self.assertEqual([found.unread(end) for end in (2, 3, 100)], [0, 2, 5])
+        self.assertEqual([found.unread(end) for end in (2, 3)], [0, 2])
+        # What lies behind the last block, which ends at byte 2049, was not read.
+        self.assertEqual(found.unread(5), 3 + 2 + 2)
 
     def test_gaps(self) -> None:
         """Sectors of which some byte is unread; what touches is one run."""
         found = maps.Map("m", "", ((0, 1024, "+"), (1024, 513, "-"), (1537, 511, "*"), (2048, 512, "/"), (2560, 1024, "+"), (3584, 1, "-")))
-        self.assertEqual(found.gaps(100), [range(2, 5), range(7, 8)])
+        self.assertEqual(found.gaps(8), [range(2, 5), range(7, 8)])
         self.assertEqual((found.gaps(7), found.gaps(4), found.gaps(2)), ([range(2, 5)], [range(2, 4)], []))
+
+    def test_gaps_before_and_behind_all_blocks(self) -> None:
+        """Of what lies in no block nothing was read, as `salvage` has it: of an image that was made longer, say."""
+        found = maps.Map("m", "", ((1024, 512, "+"), (1536, 512, "-"), (2048, 1000, "+")))
+        self.assertEqual((found.gaps(100), found.unread(100)), ([range(0, 2), range(3, 4), range(5, 100)], 3 + 2 + 96))
+        self.assertEqual((found.gaps(5), found.gaps(1), maps.Map("m", "", ()).gaps(9)), ([range(0, 2), range(3, 4)], [range(0, 1)], [range(0, 9)]))
 
     def test_no_map(self) -> None:
         for text, line in (("", "it has no lines"), ("no map\n", "line 1"), ("# x\n\n0x0 +\n", "no blocks"), ("0 +\n", "no blocks"),

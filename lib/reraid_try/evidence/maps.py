@@ -1,7 +1,7 @@
 """The maps of ddrescue beside the images."""
 
 import dataclasses
-from collections.abc import Sequence
+from collections.abc import Iterator, Sequence
 
 from ..errors import OutsideError, said
 from ..units import SECTOR
@@ -20,21 +20,27 @@ class Map:
     text: str
     blocks: tuple[tuple[int, int, str], ...]
 
+    def not_read(self, end: int) -> Iterator[tuple[int, int]]:
+        """Where each block begins, and how many bytes it has before an end in sectors, that was not read; of what lies in no block nothing was."""
+        last = sum(self.blocks[-1][:2]) if self.blocks else 0
+        before = [(0, first, "") for first, _, _ in self.blocks[:1]]
+        for begin, count, status in (*before, *self.blocks, (last, end * SECTOR - last, "")):
+            count = min(count, end * SECTOR - begin)
+            if status != READ and count > 0:
+                yield begin, count
+
     def unread(self, end: int) -> int:
-        """How many sectors before an end it calls unread, about."""
-        bounds = [(first, min(length, end * SECTOR - first)) for first, length, status in self.blocks if status != READ and first < end * SECTOR]
-        return sum(-(-length // SECTOR) + 1 for _, length in bounds)
+        """How many sectors before an end it does not call read, about."""
+        return sum(-(-count // SECTOR) + 1 for _, count in self.not_read(end))
 
     def gaps(self, end: int) -> list[range]:
-        """The runs of sectors before an end of which it calls some byte unread, in order."""
+        """The runs of sectors before an end of which it does not call each byte read, in order."""
         found: list[range] = []
-        for first, length, status in self.blocks:
-            begin, behind = first // SECTOR, min(-(-(first + length) // SECTOR), end)
-            if status == READ or begin >= behind:
-                continue
+        for first, count in self.not_read(end):
+            begin = first // SECTOR
             if found and found[-1].stop >= begin:
                 begin = found.pop().start
-            found.append(range(begin, behind))
+            found.append(range(begin, -(-(first + count) // SECTOR)))
         return found
 
 

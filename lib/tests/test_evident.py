@@ -199,6 +199,24 @@ class Attempts(unittest.TestCase):
             self.assertEqual(self.order(shapes, True, content, tied=False), wanted)
         self.assertEqual(self.order((Shape("5", 3), *shapes), True)[:4], ["list 0", "list 0", *then])
 
+    def test_what_is_loosened_of_what_is_content(self) -> None:
+        """The shapes of which a candidate has a sign already, and no others; all where none has."""
+        asked: list[tuple[Shape, ...]] = []
+
+        def step(it: Step, _hunt: Any) -> bool:
+            asked.append(it.shapes)
+            return False
+        shapes = Shape("0", 3), Shape("5", 4, 1), Shape("6", 5, 2)
+        cases: list[tuple[list[Shape], list[tuple[Shape, ...]]]] = [
+            ([shapes[0]], [(shapes[0],)]), ([shapes[2], shapes[1]], [shapes[1:]]), ([], [shapes, shapes]), ([Shape("5", 3)], [shapes])]
+        for signed, wanted in cases:
+            asked.clear()
+            found = types.SimpleNamespace(encrypted=[])
+            tested = [types.SimpleNamespace(score=Score.CHECKED, found=found, trial=types.SimpleNamespace(shape=shape)) for shape in signed]
+            it = Evident(cast(Any, types.SimpleNamespace(options=Options(("a",)), take_step=step, tested=tested)))
+            it.loosened(cast(Any, types.SimpleNamespace(program=types.SimpleNamespace())), Aim((0, 1, 2), Span(0, 9), "why", shapes), 0)
+            self.assertEqual(asked, wanted)
+
     def test_no_parity_or_no_marks(self) -> None:
         """Without marks zeros come first where Q tells nothing; where no parity is left either, all sets are listed too."""
         self.assertEqual(self.order(Shape("5", 6, 1), True), ["list 0", "zeros", "list 1", "list 2"])
@@ -643,7 +661,8 @@ class Unread(unittest.TestCase):
 
     def test_rows(self) -> None:
         """Those of the images of an aim, each moved by its offset."""
-        maps = [None, Map("b.map", "", ((0, 5120, "+"), (5120, 512, "-"), (5632, 90000, "+"))), Map("c.map", "", ((0, 1024, "*"), (1024, 90000, "+")))]
+        maps = [None, Map("b.map", "", ((0, 5120, "+"), (5120, 512, "-"), (5632, 90000, "+"))),
+                Map("c.map", "", ((0, 1024, "*"), (1024, 90000, "+")))]
         images = [Image(name, number, 100, map=it) for number, (name, it) in enumerate(zip("abc", maps))]
         found, _ = evident(images, NoTools({}), Options(("a",)))
         for numbers, moved, gaps in (((0, 1, 2), (), [range(10, 11), range(0, 2)]), ((0, 1), (), [range(10, 11)]), ((2, 0), (), [range(0, 2)]),

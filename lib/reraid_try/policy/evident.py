@@ -336,9 +336,11 @@ class Evident:
         return sorted(row for row in rows if aim.begin is None or row <= aim.begin)
 
     def loosened(self, hunt: Hunt, aim: Aim, before: int) -> None:
-        """The trials of the shapes of an aim with ever more loosened, until a candidate is whole, encrypted or content. `before` is how many
-        candidates were tested before those of the aim."""
+        """The trials of the shapes of an aim with ever more loosened, until a candidate is whole, encrypted or content; of the shapes alone of which
+        one is content already, where there are such. `before` is how many candidates were tested before those of the aim."""
         hunt.program.seconds = self.options.seconds
+        content = tuple(shape for shape in aim.shapes if self.is_content(before, shape))
+        aim = dataclasses.replace(aim, shapes=content or aim.shapes)
         for count in range(1, MOST_LOOSENED + 1):
             if self.take_step(aim, count, hunt, before) or self.is_content(before):
                 return

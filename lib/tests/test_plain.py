@@ -111,7 +111,10 @@ class Aims(unittest.TestCase):
         self.assertEqual((aim.images, aim.copied, aim.shapes), ((0, 1, 2), True, ()))
         self.assertEqual(aim.why, "images 0, 2 hold the same in 500 rows of those that were looked at: copies, or level 5 whose third disk is lost "
                          "and zeros there")
-        self.assertEqual([aim.shapes for aim in plain.tied(told, range(3), SPAN, ALL)], [(Shape("5", 3, 1),)])
+        tied, = plain.tied(told, range(3), SPAN, ALL)
+        self.assertEqual(tied.shapes, (Shape("5", 3, 1),))
+        self.assertEqual(tied.why, "images 0, 2: hold the same in 500 rows of those that were looked at, as level 5 does where its third disk is lost "
+                         "and was zeros there")
         self.assertEqual(plain.copied(told, range(3), SPAN, ALL), [])
         three = Told((Known(Family((0, 1, 2), 500, 8, 900, "5", 0)),), (), True)
         self.assertEqual(plain.perhaps_copied(three, range(3), SPAN, ALL), [])

@@ -70,7 +70,7 @@ class Told(unittest.TestCase):
         known = told.known[0]
         self.assertEqual((known.family.images, known.family.level, known.family.lost, known.family.members), ((0, 1, 2, 3, 4), "6", 1, 6))
         self.assertEqual((known.begin, known.chunk), (24, 16))
-        line = "images 0, 1, 2, 3, 4: tied as by parity of level 6, 1 disk of 6 is lost, chunks of 16 sectors, from sector 24 on"
+        line = "images 0, 1, 2, 3, 4: tied as by parity of level 6, 1 disk of 6 is lost, chunks of 16 sectors, first at sector 24"
         self.assertEqual(ties.lines(told), [line, "image 5: tied to nothing; foreign, zeros, too old or damaged to tell, or of an array that has "
                                                   "lost as many disks as its level bears"])
 

@@ -111,6 +111,9 @@ def named(numbers: Sequence[int]) -> str:
 def lost_line(family: Family) -> str:
     """What is said of the parity of a family."""
     lost = family.lost or 0
+    if family.may_be_copies:
+        return (f"hold the same in {counted(family.rows, 'row')} of those that were looked at, as level 5 does where its third disk is lost and was "
+                "zeros there")
     if family.is_either:
         images = len(family.images)
         return (f"tied in {counted(family.rows, 'row')} alone of those that were looked at, as where the lost disks hold zeros: level 6 of which 2 "
@@ -137,7 +140,7 @@ def lines(told: Told) -> list[str]:
                         "whose third disk is lost and zeros there")
             continue
         chunk = f", chunks of {it.chunk} sectors" if it.chunk else ""
-        begin = f", from sector {it.begin} on" if it.begin is not None else ""
+        begin = f", first at sector {it.begin}" if it.begin is not None else ""
         said.append(f"{named(family.images)}: {lost_line(family)}{chunk}{begin}")
         said += [old.line(f"image {old.image}") for old in family.old] + ([family.reshape.line()] if family.reshape else [])
         if family.loose:

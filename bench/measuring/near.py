@@ -1,11 +1,11 @@
 #!/usr/bin/env python3
 """Runs reraid-try where the plain search finds nothing: an array that begins behind what is read first, one with a damaged image, one with
-two, one whose landmarks mostly contradict it, arrays of which two images have bad areas that no map tells of, and one beside a disk
-with marks of its own. Of two damaged images and of wrong landmarks it compares the diagnosis with what was done to the images. The last line
+two, one whose landmarks mostly contradict it, arrays of which two images have bad areas that no map tells of, one with an image that was read in part,
+and one beside a disk with marks of its own. Of two damaged images and of wrong landmarks it compares the diagnosis with what was done to the images. The last line
 counts them, each line says how long it took.
 
 Usage: bench/measuring/near.py [--keep DIR] [CASE..], of far, one_damaged, two_damaged, wrong_group, areas_in_six, areas_at_the_start, areas_in_four,
-areas_one_lost, areas_in_ntfs and foreign_disk. It needs what bench/measuring/try.py needs, and 5 GiB for files.
+areas_one_lost, areas_in_ntfs, imaged_in_part and foreign_disk. It needs what bench/measuring/try.py needs, and 5 GiB for files.
 """
 
 import argparse
@@ -169,6 +169,31 @@ def areas_in_ntfs(folder, cache):
     return left_out(true, (0, 2)) in best(events) and true in listed(events)
 
 
+def map_of(name, *bad):
+    """Writes the map of an image in which these runs of sectors were not read: the first one and how many."""
+    lines, at = ["0x0 +"], 0
+    for first, count in bad:
+        lines += [f"{at * SECTOR} {(first - at) * SECTOR} +", f"{first * SECTOR} {count * SECTOR} -"]
+        at = first + count
+    end = os.path.getsize(name) // SECTOR
+    lines += [f"{at * SECTOR} {(end - at) * SECTOR} +"] if at < end else []
+    pathlib.Path(f"{name}.map").write_text("\n".join(lines) + "\n")
+
+
+def imaged_in_part(folder, cache):
+    """One of five images was read up to seven tenths, as its map says, and made as long as the others since; two others have maps of small areas. The
+    set without that image, or the true one, is among the best."""
+    order, true = large(Array("5", 5, (), "ext4"), cache, folder)
+    for name, first in ((order[0], 50000), (order[3], 90000)):
+        try_arrays.put(name, first, bytes(96 * SECTOR))
+        map_of(name, (first, 96))
+    whole, part = os.path.getsize(order[2]), os.path.getsize(order[2]) // SECTOR * 7 // 10
+    os.truncate(order[2], part * SECTOR)
+    map_of(order[2])
+    os.truncate(order[2], whole)
+    return not {left_out(true, (2,)), true}.isdisjoint(best(search(order)))
+
+
 def foreign_disk(folder, cache):
     """A disk with a table and an NTFS of its own, which has most of the marks and begins elsewhere: the true set is among the best."""
     order, true = try_arrays.make(Array("5", 4, (), "xfs"), cache, folder, 34816)
@@ -179,7 +204,7 @@ def foreign_disk(folder, cache):
     return true in best(search([*order, name]))
 
 
-CASES = (far, one_damaged, two_damaged, wrong_group, areas_in_six, areas_at_the_start, areas_in_four, areas_one_lost, areas_in_ntfs, foreign_disk)
+CASES = (far, one_damaged, two_damaged, wrong_group, areas_in_six, areas_at_the_start, areas_in_four, areas_one_lost, areas_in_ntfs, imaged_in_part, foreign_disk)
 
 
 def main():

@@ -113,8 +113,8 @@ class Aims(unittest.TestCase):
                          "and zeros there")
         tied, = plain.tied(told, range(3), SPAN, ALL)
         self.assertEqual(tied.shapes, (Shape("5", 3, 1),))
-        self.assertEqual(tied.why, "images 0, 2: hold the same in 500 rows of those that were looked at, as level 5 does where its third disk is lost "
-                         "and was zeros there")
+        self.assertEqual(tied.why, "images 0, 2: hold the same in 500 rows of those that were looked at, as level 5 does where its third disk is lost"
+                         " and was zeros there")
         self.assertEqual(plain.copied(told, range(3), SPAN, ALL), [])
         three = Told((Known(Family((0, 1, 2), 500, 8, 900, "5", 0)),), (), True)
         self.assertEqual(plain.perhaps_copied(three, range(3), SPAN, ALL), [])

@@ -118,7 +118,7 @@ unfoldable pub sector_groups : InodeTables → ℕ
 sector_groups tables = 512 / tables.descriptor
 
 -- a sector has the descriptors of the groups from the first on, as far as the file system has them: a checksum has 16 bits, those of
--- a sector together 128 or more
+-- a full sector together 128 or more, and those of a file system of one group or two 16 or 32
 unfoldable pub are_descriptors : InodeTables → ℕ → List ℕ → Bool
 are_descriptors tables first s =
     list_all (λ i. not (has_group tables (first + i)) || is_descriptor tables (first + i) s (i * tables.descriptor)) (range_with_len 0 (sector_groups tables))

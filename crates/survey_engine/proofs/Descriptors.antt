@@ -59,7 +59,7 @@ bare_begins (Tree tree) = refl
 bare_begins (Placed pair place) = refl
 bare_begins landmark = refl
 
-bare_copy : (asked : Bool) (lengths : List ℕ) (s : Sighting) → has_copy asked lengths (bare s) ≡ has_copy asked lengths s
+pub bare_copy : (asked : Bool) (lengths : List ℕ) (s : Sighting) → has_copy asked lengths (bare s) ≡ has_copy asked lengths s
 unfolding has_copy
 bare_copy asked lengths s = ap (λ (b : Bool). asked && b && nat_le (s.sector + 256) (slice_index lengths s.image)) (bare_begins s.landmark)
 

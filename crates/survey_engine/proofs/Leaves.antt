@@ -117,7 +117,7 @@ bare_with leaf (Tree by) landmark = refl
 bare_with leaf (Placed pair place) landmark = refl
 bare_with leaf by landmark = refl
 
-bare_leaf : (lengths : List ℕ) (s : Sighting) → is_leaf lengths (bare s) ≡ is_leaf lengths s
+pub bare_leaf : (lengths : List ℕ) (s : Sighting) → is_leaf lengths (bare s) ≡ is_leaf lengths s
 unfolding is_leaf
 bare_leaf lengths s = ap (λ (b : Bool). b && nat_le (s.sector + 32) (slice_index lengths s.image)) (bare_begins s.landmark)
 

@@ -17,4 +17,5 @@ pub mod Once
 pub mod Law
 pub mod Leaves
 pub mod Descriptors
+pub mod Sizes
 pub mod Told

@@ -22,7 +22,7 @@ use Rattle.landmark_rules.specs.declared.marks.Mark.{Mark}
 use Rattle.landmark_rules.specs.declared.marks.Rule.{Rule}
 use Rattle.landmark_rules.specs.declared.marks.Rule.TheVariants.{At, Either, Every}
 use Rattle.survey_engine.specs.Landmarks.{kind_of, IsSound}
-use Rattle.survey_engine.specs.Owners.{group_kind, ag_rule, is_same_boot, is_same_super, inodes_rule, is_same_volume, mark_in, begins_sector, placed_rule, record_rule, rule_in, tree_rule, volume_of, IsSoundOwner}
+use Rattle.survey_engine.specs.Owners.{group_kind, ag_rule, is_same_boot, is_same_super, inodes_rule, is_mark_of, is_same_volume, mark_in, begins_sector, placed_rule, record_rule, rule_in, tree_rule, volume_of, IsSoundOwner}
 use Rattle.survey_engine.specs.Sightings.{sighted_at, sighting_place, AreRising, IsInImages, Place}
 use Rattle.survey_engine.specs.declared.landmark.InodePlace.{InodePlace}
 use Rattle.survey_engine.specs.declared.landmark.Landmark.{Landmark}
@@ -114,7 +114,7 @@ rule_is (Xfs x) alone at (Agi g) so sl = if_alone alone (ag_rule x g 2) (group_r
 rule_is (Btrfs f) alone at (BtrfsSector b) so sl = if_passed (bytes_eq f b.fsid) (At (b.address / 512)) (λ same. address_below b.address sl)
 rule_is (Label i s) alone at (Lvm n) so sl = if_passed (i == at.image && s == at.sector) (At n) (λ same. sl)
 rule_is (Ext v) alone at (ExtSector x) so sl = if_passed (is_same_volume v (volume_of x)) (At x.copy_sector) (λ same. sl)
-rule_is (Xfs5 x) alone at (Inode i) so sl = if_placed (bytes_eq x.uuid i.uuid) (inode_sector x i.number) (inode_near x i.number so)
+rule_is (Xfs5 x) alone at (Inode i) so sl = if_placed (is_mark_of x i) (inode_sector x i.inode.number) (inode_near x i.inode.number so)
 rule_is (Trees u) alone at (Tree t) so sl = if_ruled (bytes_eq u t.block.identifier) (tree_rule t) (placed_is t.first t.second)
 rule_is (Extinode u) alone at (Placed pair place) so sl = if_ruled (bytes_eq u place.identifier) (inodes_rule place) (inodes_near place)
 rule_is o alone at l so sl = tt
@@ -135,7 +135,7 @@ kind_is (Xfs x) alone at (Agi g) = any_rule _ (cond alone (ag_rule x g 2) None) 
 kind_is (Btrfs f) alone at (BtrfsSector b) = any_rule _ (cond (bytes_eq f b.fsid) (Some (At (b.address / 512))) None) refl
 kind_is (Label i s) alone at (Lvm n) = any_rule _ (cond (i == at.image && s == at.sector) (Some (At n)) None) refl
 kind_is (Ext v) alone at (ExtSector x) = any_rule _ (cond (is_same_volume v (volume_of x)) (Some (At x.copy_sector)) None) refl
-kind_is (Xfs5 x) alone at (Inode i) = any_rule _ (cond (bytes_eq x.uuid i.uuid) (option_map At (inode_sector x i.number)) None) refl
+kind_is (Xfs5 x) alone at (Inode i) = any_rule _ (cond (is_mark_of x i) (option_map At (inode_sector x i.inode.number)) None) refl
 kind_is (Trees u) alone at (Tree t) = any_rule _ (cond (bytes_eq u t.block.identifier) (tree_rule t) None) refl
 kind_is (Extinode u) alone at (Placed pair place) = any_rule _ (cond (bytes_eq u place.identifier) (inodes_rule place) None) refl
 kind_is o alone at l = tt

@@ -4,7 +4,7 @@ use Rattle.std.specs.Prelude.{count_by, ◌/◌, ◌==◌, ◌&&◌}
 use Rattle.std.specs.Str.{bytes_eq}
 use Rattle.std.specs.List.{cons_option, filter_map, flat_map, sum_by}
 use Rattle.std.specs.Option.{is_some, option_map}
-use Rattle.std.proofs.lemmas.Bool.{eqb-true}
+use Rattle.std.proofs.lemmas.Bool.{and_parts, eqb-true}
 use Rattle.std.proofs.lemmas.List.Sums.{count_by-le-length, sum_by-append, sum_by-cons}
 use Rattle.ntfs_marks.specs.declared.boot.NtfsBoot.{NtfsBoot}
 use Rattle.ntfs_marks.specs.declared.file_record.NtfsRecord.{NtfsRecord}
@@ -13,7 +13,6 @@ use Rattle.xfs_marks.specs.declared.superblock.XfsSuper.{XfsSuper}
 use Rattle.more_marks.specs.declared.btrfs.BtrfsSuper.{BtrfsSuper}
 use Rattle.ext_marks.specs.declared.copy.ExtSuper.{ExtSuper}
 use Rattle.xfs5.specs.Places.{inode_sector}
-use Rattle.xfs5.specs.declared.inode.XfsInode.{XfsInode}
 use Rattle.xfs5.specs.declared.places.XfsInodes.{XfsInodes}
 use Rattle.landmark_rules.specs.Groups.{kind_place}
 use Rattle.mark_kinds.specs.declared.groups.GroupKind.{GroupKind}
@@ -22,11 +21,12 @@ use Rattle.landmark_rules.specs.declared.marks.Mark.{Mark}
 use Rattle.landmark_rules.specs.declared.marks.Rule.{Rule}
 use Rattle.landmark_rules.specs.declared.marks.Rule.TheVariants.{At, Either, Every}
 use Rattle.survey_engine.specs.Landmarks.{kind_of}
-use Rattle.survey_engine.specs.Owners.{is_same_boot, is_same_owner, is_same_super, is_same_volume, inodes_rule, mark_in, owners_of, rule_in, tree_rule, volume_of}
+use Rattle.survey_engine.specs.Owners.{is_same_boot, is_same_owner, is_same_super, is_mark_of, is_same_volume, inodes_rule, mark_in, owners_of, rule_in, tree_rule, volume_of}
 use Rattle.survey_engine.specs.Sightings.{is_same_kind, sighted_at, Place}
 use Rattle.survey_engine.specs.declared.landmark.GptTable.{GptTable}
 use Rattle.inode_marks.specs.declared.inode.InodePair.{InodePair}
 use Rattle.survey_engine.specs.declared.landmark.InodePlace.{InodePlace}
+use Rattle.survey_engine.specs.declared.landmark.InodeSeen.{InodeSeen}
 use Rattle.survey_engine.specs.declared.landmark.Landmark.{Landmark}
 use Rattle.survey_engine.specs.declared.landmark.Landmark.TheVariants.{Gpt, Boot, FileRecord, Super, Super5, Agf, Agi, Btrfs as BtrfsSector, Lvm, Ext as ExtSector, Inode, Tree, Inodes, Placed}
 use Rattle.survey_engine.specs.declared.landmark.TreeSeen.{TreeSeen}
@@ -152,7 +152,11 @@ placed_passed : (b : Bool) (place : Option ℕ) → is_some (cond b (option_map 
 placed_passed true place takes = refl
 placed_passed false place takes = takes
 
-takes_inode : (alone : Bool) (at : Place) (i : XfsInode) (o : Owner) → is_some (rule_in o alone at (Inode i)) ≡ true → is_same_owner o (Xfs5 (of_uuid i.uuid)) ≡ true
+marks_inode : (x : XfsInodes) (i : InodeSeen) → is_mark_of x i ≡ true → bytes_eq x.uuid i.inode.uuid ≡ true
+unfolding is_mark_of
+marks_inode x i is = (and_parts (bytes_eq x.uuid i.inode.uuid) _ is).0
+
+takes_inode : (alone : Bool) (at : Place) (i : InodeSeen) (o : Owner) → is_some (rule_in o alone at (Inode i)) ≡ true → is_same_owner o (Xfs5 (of_uuid i.inode.uuid)) ≡ true
 unfolding rule_in of_uuid
 takes_inode alone at i Table takes = takes
 takes_inode alone at i (Ntfs b) takes = takes
@@ -160,7 +164,7 @@ takes_inode alone at i (Xfs x) takes = takes
 takes_inode alone at i (Btrfs f) takes = takes
 takes_inode alone at i (Label j s) takes = takes
 takes_inode alone at i (Ext v) takes = takes
-takes_inode alone at i (Xfs5 x) takes = placed_passed (bytes_eq x.uuid i.uuid) (inode_sector x i.number) takes
+takes_inode alone at i (Xfs5 x) takes = marks_inode x i (placed_passed (is_mark_of x i) (inode_sector x i.inode.number) takes)
 takes_inode alone at i (Trees u) takes = takes
 takes_inode alone at i (Extinode u) takes = takes
 
@@ -262,7 +266,7 @@ taken_once kind found at (Lvm n) =
 taken_once kind found at (ExtSector y) =
     omega (arith, fewer (λ o. is_some (rule_in o (length (owners_of kind found) == 1) at (ExtSector y))) (λ o. is_same_owner o (Ext (volume_of y))) (takes_copy (length (owners_of kind found) == 1) at y) (owners_of kind found), owners_once kind found (Ext (volume_of y)))
 taken_once kind found at (Inode i) =
-    omega (arith, fewer (λ o. is_some (rule_in o (length (owners_of kind found) == 1) at (Inode i))) (λ o. is_same_owner o (Xfs5 (of_uuid i.uuid))) (takes_inode (length (owners_of kind found) == 1) at i) (owners_of kind found), owners_once kind found (Xfs5 (of_uuid i.uuid)))
+    omega (arith, fewer (λ o. is_some (rule_in o (length (owners_of kind found) == 1) at (Inode i))) (λ o. is_same_owner o (Xfs5 (of_uuid i.inode.uuid))) (takes_inode (length (owners_of kind found) == 1) at i) (owners_of kind found), owners_once kind found (Xfs5 (of_uuid i.inode.uuid)))
 taken_once kind found at (Tree t) =
     omega (arith, fewer (λ o. is_some (rule_in o (length (owners_of kind found) == 1) at (Tree t))) (λ o. is_same_owner o (Trees t.block.identifier)) (takes_tree (length (owners_of kind found) == 1) at t) (owners_of kind found), owners_once kind found (Trees t.block.identifier))
 taken_once kind found at (Placed pair place) =

@@ -1,11 +1,12 @@
 -- What sightings tell of others, one after the other, and what is read for it.
 use Rattle.std.proofs.Common.{◌≡◌, ℕ, ◌+◌, ◌-◌, ◌*◌, ◌<◌, ◌≤◌, List, [], ◌∷◌, Bool, true, false, cond, length, map, take, get_or, slice_index, fold, refl, sym, ap, ap₂, ◌∙◌, arith, IfSome, Option, Some, None}
-use Rattle.std.specs.Prelude.{count_by, nat_le, ◌&&◌, ◌==◌}
+use Rattle.std.specs.Prelude.{count_by, nat_le, not, ◌&&◌, ◌==◌}
+use Rattle.std.specs.Option.{is_some}
 use Rattle.std.proofs.lemmas.List.{take_all}
 use Rattle.std.proofs.lemmas.List.Sums.{fold_more, sum_by-cons, sum_by-le-sum_by, sum_by-take-le, sum_by_more}
 use Rattle.mark_kinds.specs.Table.{kind_place}
 use Rattle.mark_kinds.specs.declared.sectors.Kind.{Kind}
-use Rattle.mark_kinds.specs.declared.sectors.Kind.TheVariants.{Btrfstree as BtrfstreeKind, Ext as ExtKind, Gpt as GptKind}
+use Rattle.mark_kinds.specs.declared.sectors.Kind.TheVariants.{Btrfstree as BtrfstreeKind, Ext as ExtKind, Gpt as GptKind, Xfs5 as Xfs5Kind}
 use Rattle.outside.specs.Attached.{told_all}
 use Rattle.outside.specs.Seen.{Image, OnlyReads, Seen, lengths_of}
 use Rattle.outside.proofs.Reading.{reads_join, reads_none, reads_up}
@@ -13,14 +14,15 @@ use Rattle.survey_engine.specs.declared.ask.Ask.{Ask}
 use Rattle.survey_engine.specs.Landmarks.{kind_of}
 use Rattle.survey_engine.specs.Origins.{is_followed}
 use Rattle.survey_engine.specs.Sightings.{is_same_kind}
-use Rattle.survey_engine.specs.Surveys.{copies_read, found_in, leaves_read, survey_reads}
+use Rattle.survey_engine.specs.Sizing.{has_run, is_unsized}
+use Rattle.survey_engine.specs.Surveys.{copies_read, found_in, inodes_read, leaves_read, survey_reads}
 use Rattle.survey_engine.specs.Telling.{bare, begins_copy, begins_leaf, has_copy, is_leaf, sectors_by, told, told_by, told_by_copy, told_by_leaf}
 use Rattle.survey_engine.specs.declared.landmark.Landmark.{Landmark}
-use Rattle.survey_engine.specs.declared.landmark.Landmark.TheVariants.{Ext, Tree}
+use Rattle.survey_engine.specs.declared.landmark.Landmark.TheVariants.{Ext, Inode, Tree}
 use Rattle.survey_engine.specs.declared.sighting.Sighting.{Sighting}
-use Rattle.survey_engine.proofs.Descriptors.{same_by_copy, same_copy}
+use Rattle.survey_engine.proofs.Descriptors.{bare_copy, same_by_copy, same_copy}
 use Rattle.survey_engine.proofs.Firsts.{entries_of}
-use Rattle.survey_engine.proofs.Leaves.{same_by_leaf, same_leaf}
+use Rattle.survey_engine.proofs.Leaves.{bare_leaf, same_by_leaf, same_leaf}
 
 -- ---- what one tells is that of what it is
 
@@ -171,24 +173,58 @@ copies_of (Some images) ask attached lengths found are is few =
     ap (λ (ns : List ℕ). count_by (has_copy ask.kinds.extinode ns) found) are ∙ ap (λ (l : List Sighting). count_by (has_copy ask.kinds.extinode (lengths_of attached)) l) is in
     omega (arith, same)
 
+-- and how many inodes of more than one sector
+run_few : (landmark : Landmark) (b : Bool) → cond (is_unsized landmark && b) 1 0 ≤ cond (kind_place (kind_of landmark) == 10) 1 0
+run_few (Inode i) b = both_one (not (is_some i.bytes)) b
+run_few landmark b = omega arith
+
+runs_are_few : (lengths : List ℕ) (found : List Sighting) → count_by (has_run lengths) found ≤ count_by (is_same_kind Xfs5Kind) found
+unfolding has_run
+runs_are_few lengths found =
+    sum_by-le-sum_by (λ (s : Sighting). cond (has_run lengths s) 1 0) (λ (s : Sighting). cond (is_same_kind Xfs5Kind s) 1 0) found (λ s. run_few s.landmark (nat_le (s.sector + 4) (slice_index lengths s.image)))
+
+runs_of : (bytes : Option (List (List ℕ))) (ask : Ask) (attached : List Image) (lengths : List ℕ) (found : List Sighting) → lengths ≡ lengths_of attached → IfSome bytes (λ images. found ≡ found_in ask attached images) →
+    count_by (is_same_kind Xfs5Kind) found ≤ 4096 → 4 * count_by (has_run lengths) found ≤ inodes_read bytes ask attached
+runs_of None ask attached lengths found are is few = omega (arith, runs_are_few lengths found, few)
+runs_of (Some images) ask attached lengths found are is few =
+    let same : count_by (has_run lengths) found ≡ count_by (has_run (lengths_of attached)) (found_in ask attached images) =
+    ap (λ (ns : List ℕ). count_by (has_run ns) found) are ∙ ap (λ (l : List Sighting). count_by (has_run (lengths_of attached)) l) is in
+    omega (arith, same)
+
+-- leaves and copies are those that they were before inodes were looked at
+bare_count : (f : Sighting → Bool) → ((s : Sighting) → f (bare s) ≡ f s) → (found : List Sighting) → count_by f (map bare found) ≡ count_by f found
+bare_count f same [] = refl
+bare_count f same (s ∷ found) =
+    let here : ◌≡◌ {A = ℕ} (cond (f (bare s)) 1 0) (cond (f s) 1 0) = ap (λ (b : Bool). cond b 1 0) (same s) in
+    omega (arith, here, sum_by-cons (λ t. cond (f t) 1 0) (bare s) (map bare found), sum_by-cons (λ t. cond (f t) 1 0) s found, bare_count f same found)
+
+alike_count : (f : Sighting → Bool) → ((s : Sighting) → f (bare s) ≡ f s) → (found new : List Sighting) → map bare new ≡ map bare found → count_by f new ≡ count_by f found
+alike_count f same found new alike = sym (bare_count f same new) ∙ ap (count_by f) alike ∙ bare_count f same found
+
 -- what was read in all
 pub sweep_read : (a b : Seen) (ask : Ask) → OnlyReads a b (length a.attached * (ask.end - slice_index ask.bounds.offsets.items 0)) → OnlyReads a b (survey_reads ask a.attached)
 unfolding survey_reads
 sweep_read a b ask ab = reads_up a b ab (omega arith)
 
-pub survey_read : (a b c d : Seen) (ask : Ask) (lengths : List ℕ) (found : List Sighting) → lengths ≡ lengths_of a.attached → IfSome (told_all a.attached) (λ bytes. found ≡ found_in ask a.attached bytes) →
-    ((kind : Kind) → count_by (is_same_kind kind) found ≤ 4096) → OnlyReads a b (length a.attached * (ask.end - slice_index ask.bounds.offsets.items 0)) → OnlyReads b c (count_by (is_followed lengths) found) →
-    OnlyReads c d (32 * count_by (is_leaf lengths) found + 256 * count_by (has_copy ask.kinds.extinode lengths) found) → OnlyReads a d (survey_reads ask a.attached)
+pub survey_read : (a b c d e : Seen) (ask : Ask) (lengths : List ℕ) (found new : List Sighting) → lengths ≡ lengths_of a.attached → IfSome (told_all a.attached) (λ bytes. found ≡ found_in ask a.attached bytes) →
+    ((kind : Kind) → count_by (is_same_kind kind) found ≤ 4096) → map bare new ≡ map bare found → OnlyReads a b (length a.attached * (ask.end - slice_index ask.bounds.offsets.items 0)) → OnlyReads b c (count_by (is_followed lengths) found) →
+    OnlyReads c d (4 * count_by (has_run lengths) found) → OnlyReads d e (32 * count_by (is_leaf lengths) new + 256 * count_by (has_copy ask.kinds.extinode lengths) new) → OnlyReads a e (survey_reads ask a.attached)
 unfolding survey_reads
-survey_read a b c d ask lengths found are is few ab bc cd =
-    reads_up a d (reads_join a c d (reads_join a b c ab bc) cd)
+survey_read a b c d e ask lengths found new are is few alike ab bc cd de =
+    reads_up a e (reads_join a d e (reads_join a c d (reads_join a b c ab bc) cd) de)
     (omega (
       arith,
       entries_of (told_all a.attached) ask a.attached lengths found are is (few GptKind),
+      runs_of (told_all a.attached) ask a.attached lengths found are is (few Xfs5Kind),
+      alike_count (is_leaf lengths) (bare_leaf lengths) found new alike,
       leaves_of (told_all a.attached) ask a.attached lengths found are is (few BtrfstreeKind),
+      alike_count (has_copy ask.kinds.extinode lengths) (bare_copy ask.kinds.extinode lengths) found new alike,
       copies_of (told_all a.attached) ask a.attached lengths found are is (few ExtKind),
     ))
 
 -- nothing, yet
 pub none_read : (a : Seen) (asked : Bool) (lengths : List ℕ) (found : List Sighting) → OnlyReads a a (32 * count_by (is_leaf lengths) found + 256 * count_by (has_copy asked lengths) found)
 none_read a asked lengths found = reads_up a a (reads_none a) (omega arith)
+
+pub none_sized : (a : Seen) (lengths : List ℕ) (found : List Sighting) → OnlyReads a a (4 * count_by (has_run lengths) found)
+none_sized a lengths found = reads_up a a (reads_none a) (omega arith)

@@ -1,6 +1,6 @@
 -- What a sector may be.
 use Rattle.std.specs.Prelude.{ℕ, ◌*◌, ◌<◌, ◌%◌, Bool, false, ◌||◌, ◌==◌, IsTrue, nat_lt, List, [], Option, Some, None, option_and_then, if◌then◌else◌, ◌^◌}
-use Rattle.std.specs.Option.{option_map, option_or}
+use Rattle.std.specs.Option.{is_some, option_map, option_or}
 use Rattle.sector_fields.specs.Fields.{u32_be, u64_le}
 use Rattle.gpt_marks.specs.Header.{is_gpt_header, gpt_header_of, is_own_table, IsUnit}
 use Rattle.gpt_marks.specs.declared.header.GptHeader.{GptHeader}
@@ -12,7 +12,7 @@ use Rattle.xfs_marks.specs.Group.{is_xfs_agf, is_xfs_agi}
 use Rattle.more_marks.specs.Btrfs.{btrfs_super_of, is_btrfs_super, is_super_address}
 use Rattle.more_marks.specs.Lvm.{is_lvm_label}
 use Rattle.ext_marks.specs.Copy.{ext_super_of, is_ext_copy}
-use Rattle.xfs5.specs.Inode.{xfs_inode}
+use Rattle.xfs5.specs.Inode.{inode_start, xfs_inode}
 use Rattle.xfs5.specs.Places.{xfs_inodes, is_sound as is_sound_place}
 use Rattle.xfs5.specs.declared.inode.XfsInode.{XfsInode}
 use Rattle.xfs5.specs.declared.places.XfsInodes.{XfsInodes}
@@ -24,6 +24,7 @@ use Rattle.mark_kinds.specs.declared.looking.Kinds.{Kinds}
 use Rattle.mark_kinds.specs.declared.sectors.Kind.{Kind}
 use Rattle.mark_kinds.specs.declared.sectors.Kind.TheVariants.{Gpt as GptKind, Boot as BootKind, FileRecord as RecordKind, Super as SuperKind, Agf as AgfKind, Agi as AgiKind, Btrfs as BtrfsKind, Lvm as LvmKind, Ext as ExtKind, Extinode as ExtinodeKind, Xfs5 as Xfs5Kind, Btrfstree as BtrfstreeKind}
 use Rattle.survey_engine.specs.declared.landmark.GptTable.{GptTable}
+use Rattle.survey_engine.specs.declared.landmark.InodeSeen.{InodeSeen}
 use Rattle.survey_engine.specs.declared.landmark.Landmark.{Landmark}
 use Rattle.survey_engine.specs.declared.landmark.Landmark.TheVariants.{Gpt, Boot, FileRecord, Super, Super5, Agf, Agi, Btrfs, Lvm, Ext, Inode, Tree, Inodes, Placed}
 
@@ -63,25 +64,21 @@ record_or_label_in s =
 unfoldable pub table_in : ℕ → GptHeader → Option Landmark
 table_in unit header = if nat_lt (unit * header.my_lba) (2 ^ 55) then Some (Gpt (record { header = header; unit = unit })) else None
 
--- what a superblock of version 5 says of where inodes lie, if those have 512 bytes: such an inode stands in one sector
-unfoldable pub place_of_inodes : List ℕ → Option XfsInodes
-place_of_inodes s = option_and_then (λ places. if places.inode == 512 then Some places else None) (xfs_inodes s)
-
--- a superblock with what it says of them, if it says so
+-- a superblock of XFS with what it says of where inodes lie, if it says so
 unfoldable pub super_of : XfsSuper → Option XfsInodes → Landmark
 super_of x None = Super x
 super_of x (Some places) = Super5 x places
 
 -- the superblock of XFS in a sector
 unfoldable pub super_in : List ℕ → Option Landmark
-super_in s = if is_xfs_super s then Some (super_of (xfs_super_of s) (place_of_inodes s)) else None
+super_in s = if is_xfs_super s then Some (super_of (xfs_super_of s) (xfs_inodes s)) else None
 
 -- the landmark of NTFS, XFS or LVM2 that a sector is by the bytes at its front
 unfoldable pub front_in : List ℕ → Option Landmark
 front_in s =
     if is_ntfs_boot s then Some (Boot (ntfs_boot_of s))
     else if is_ntfs_record s then Some (FileRecord (ntfs_record_of s))
-    else if is_xfs_super s then Some (super_of (xfs_super_of s) (place_of_inodes s))
+    else if is_xfs_super s then Some (super_of (xfs_super_of s) (xfs_inodes s))
     else if is_xfs_agf s then Some (Agf (u32_be s 8))
     else if is_xfs_agi s then Some (Agi (u32_be s 8))
     else if is_lvm_label s then Some (Lvm (u64_le s 8))
@@ -94,22 +91,33 @@ inner_in s =
     else if is_ext_copy s then Some (Ext (ext_super_of s))
     else None
 
+-- an inode whose number so many divide: of inodes of 512 bytes the 128th, and of inodes of 2,048 bytes the 32nd, begins a stretch of
+-- 64 KiB
+abbrev pub nth_inode : ℕ → Option XfsInode → Option XfsInode
+nth_inode n found = option_and_then (λ inode. if inode.number % n == 0 then Some inode else None) found
+
 -- the inode of XFS of version 5, of 512 bytes, that a sector holds, if its number begins a stretch of 64 KiB
-unfoldable pub inode_in : List ℕ → Option XfsInode
-inode_in s = option_and_then (λ inode. if inode.number % 128 == 0 then Some inode else None) (xfs_inode s [])
+unfoldable pub inode_in : List ℕ → Option InodeSeen
+inode_in s = option_map (λ inode. record { inode = inode; bytes = Some 512 }) (nth_inode 128 (xfs_inode s []))
+
+-- the inode of more bytes that may begin in a sector, if its number may begin such a stretch
+unfoldable pub start_in : List ℕ → Option InodeSeen
+start_in s = option_map (λ inode. record { inode = inode; bytes = None }) (nth_inode 32 (if is_some (xfs_inode s []) then None else inode_start s))
 
 -- a tree block of btrfs of which nothing is told yet
 abbrev pub untold : TreeBlock → Landmark
 untold block = Tree (record { block = block; told = None; first = None; second = None })
 
--- the inode of XFS, the tree block of btrfs that begins in a sector, or two inodes of ext4
+-- the inode of XFS, the tree block of btrfs that begins in a sector, two inodes of ext4, or what may begin a larger inode of XFS
 unfoldable pub last_in : List ℕ → Option Landmark
-last_in s = option_or (option_map Inode (inode_in s)) (option_or (option_map untold (tree_block s)) (option_map Inodes (any_pair s)))
+last_in s =
+    option_or (option_map Inode (inode_in s))
+    (option_or (option_map untold (tree_block s)) (option_or (option_map Inodes (any_pair s)) (option_map Inode (start_in s))))
 
 -- the landmark that a sector is, if it is one, on a disk whose blocks have `unit` sectors. A header of a
 -- partition table is nothing else, wherever it lies, a sector that is a landmark by its front is none of btrfs or
--- ext, an inode of XFS is what is none of these, a tree block of btrfs what is none of these and no such inode, and two inodes of ext4
--- what is no other landmark
+-- ext, an inode of XFS of 512 bytes is what is none of these, a tree block of btrfs what is none of these and no such inode, two inodes
+-- of ext4 what is no tree block either, and what may begin a larger inode of XFS what is no other landmark
 unfoldable pub landmark_in : ℕ → List ℕ → Option Landmark
 landmark_in unit s = if is_gpt_header s then table_in unit (gpt_header_of s) else option_or (front_in s) (option_or (inner_in s) (last_in s))
 

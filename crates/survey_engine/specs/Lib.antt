@@ -5,6 +5,7 @@ pub mod Exclusion
 pub mod Sightings
 pub mod Blocks
 pub mod Telling
+pub mod Sizing
 pub mod Owners
 pub mod Origins
 pub mod Surveys

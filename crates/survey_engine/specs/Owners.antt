@@ -1,7 +1,7 @@
 -- What sightings belong to, their groups and the rules of their marks.
 use Rattle.std.specs.Prelude.{ℕ, ◌+◌, ◌*◌, ◌/◌, ◌%◌, ◌^◌, Bool, true, false, IsTrue, not, ◌&&◌, ◌==◌, nat_lt, List, length, map, Option, Some, None, option_and_then, if◌then◌else◌, []}
 use Rattle.std.specs.List.{filter_map, flat_map, list_any}
-use Rattle.std.specs.Option.{is_some, option_map}
+use Rattle.std.specs.Option.{is_some, option_map, option_map_or}
 use Rattle.std.specs.Str.{bytes_eq}
 use Rattle.ntfs_marks.specs.Boot.{is_within_limit, record_sector}
 use Rattle.ntfs_marks.specs.declared.boot.NtfsBoot.{NtfsBoot}
@@ -11,7 +11,8 @@ use Rattle.xfs_marks.specs.declared.superblock.XfsSuper.{XfsSuper}
 use Rattle.ext_marks.specs.declared.copy.ExtSuper.{ExtSuper}
 use Rattle.mark_kinds.specs.Table.{all_groups, is_group_asked, is_same_group, most_groups}
 use Rattle.landmark_rules.specs.declared.marks.Group.{Group}
-use Rattle.xfs5.specs.Places.{inode_sector, is_sound as is_sound_place}
+use Rattle.xfs5.specs.Places.{inode_sector, is_mark, is_sound as is_sound_place}
+use Rattle.xfs5.specs.declared.places.XfsInodes.{XfsInodes}
 use Rattle.mark_kinds.specs.declared.looking.Kinds.{Kinds}
 use Rattle.mark_kinds.specs.declared.groups.GroupKind.{GroupKind}
 use Rattle.mark_kinds.specs.declared.groups.GroupKind.TheVariants.{Gpt as GptGroup, Ntfs as NtfsGroup, Xfs as XfsGroup, Btrfs as BtrfsGroup, Lvm as LvmGroup, Ext as ExtGroup, Extinode as ExtinodeGroup, Xfs5 as Xfs5Group, Btrfstree as BtrfstreeGroup}
@@ -22,6 +23,7 @@ use Rattle.survey_engine.specs.Kept.{kept}
 use Rattle.survey_engine.specs.Landmarks.{kind_of}
 use Rattle.survey_engine.specs.Sightings.{sighted_at, Place}
 use Rattle.survey_engine.specs.declared.landmark.InodePlace.{InodePlace}
+use Rattle.survey_engine.specs.declared.landmark.InodeSeen.{InodeSeen}
 use Rattle.survey_engine.specs.declared.landmark.Landmark.{Landmark}
 use Rattle.survey_engine.specs.declared.landmark.Landmark.TheVariants.{Gpt, Boot, FileRecord, Super, Super5, Agf, Agi, Btrfs as BtrfsSector, Lvm, Ext as ExtSector, Inode, Tree, Placed}
 use Rattle.survey_engine.specs.declared.landmark.TreeSeen.{TreeSeen}
@@ -93,6 +95,10 @@ tree_rule t = placed_rule t.first t.second
 unfoldable pub inodes_rule : InodePlace → Option Rule
 inodes_rule place = if nat_lt place.sector (2 ^ 55) then Some (At place.sector) else None
 
+-- an inode is a mark of an XFS: it has its identifier, as many bytes as the inodes there, and begins a stretch of 64 KiB
+unfoldable pub is_mark_of : XfsInodes → InodeSeen → Bool
+is_mark_of places i = bytes_eq places.uuid i.inode.uuid && option_map_or (λ bytes. bytes == places.inode) i.bytes false && is_mark places i.inode.number
+
 -- the owner that a landmark at a place names: a partition table, a file system or a physical volume, or None
 -- where it does not say. A tree block of btrfs and two inodes of ext4 name their file system where it is known where they lie
 abbrev pub owner_in : Place → Landmark → Option Owner
@@ -147,8 +153,8 @@ ag_rule x g sectors = if nat_lt g x.ag_count then Some (At (g * ag_sectors x + s
 -- of XFS at the start of each group, an AGF one sector and an AGI two sectors after that, a superblock of btrfs
 -- at its own address, a label of LVM2 at the sector that it names, and a copy of a superblock of ext at the start
 -- of its group. File records, AGF and AGI do not say whose they are, and are marks only of an owner that is
--- `alone` of its kind. An inode of XFS is a mark of the file system whose identifier it has, and so are a tree block of btrfs
--- and two inodes of ext4, where they are known to lie
+-- `alone` of its kind. An inode of XFS is a mark of the file system whose identifier it has, if it has as many bytes as the
+-- inodes there; a tree block of btrfs and two inodes of ext4 are marks of theirs, where they are known to lie
 unfoldable pub rule_in : Owner → Bool → Place → Landmark → Option Rule
 rule_in Table alone at (Gpt t) = Some (At (t.unit * t.header.my_lba))
 rule_in (Ntfs b) alone at (Boot c) = if is_same_boot b c then Some (Either 0 b.total) else None
@@ -160,7 +166,7 @@ rule_in (Xfs x) alone at (Agi g) = if alone then ag_rule x g 2 else None
 rule_in (Btrfs fsid) alone at (BtrfsSector b) = if bytes_eq fsid b.fsid then Some (At (b.address / 512)) else None
 rule_in (Label image sector) alone at (Lvm n) = if image == at.image && sector == at.sector then Some (At n) else None
 rule_in (Ext volume) alone at (ExtSector x) = if is_same_volume volume (volume_of x) then Some (At x.copy_sector) else None
-rule_in (Xfs5 places) alone at (Inode i) = if bytes_eq places.uuid i.uuid then option_map At (inode_sector places i.number) else None
+rule_in (Xfs5 places) alone at (Inode i) = if is_mark_of places i then option_map At (inode_sector places i.inode.number) else None
 rule_in (Trees identifier) alone at (Tree t) = if bytes_eq identifier t.block.identifier then tree_rule t else None
 rule_in (Extinode identifier) alone at (Placed pair place) = if bytes_eq identifier place.identifier then inodes_rule place else None
 rule_in owner alone at landmark = None

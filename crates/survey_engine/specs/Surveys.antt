@@ -11,6 +11,7 @@ use Rattle.search_plan.specs.declared.plan.Plan.{Plan}
 use Rattle.survey_engine.specs.Origins.{is_followed, origins_of}
 use Rattle.survey_engine.specs.Owners.{groups_of}
 use Rattle.survey_engine.specs.Sightings.{counted, sightings}
+use Rattle.survey_engine.specs.Sizing.{all_sized, has_run}
 use Rattle.survey_engine.specs.Telling.{has_copy, is_leaf, told}
 use Rattle.survey_engine.specs.declared.ask.Ask.{Ask}
 use Rattle.survey_engine.specs.declared.sighting.Sighting.{Sighting}
@@ -55,12 +56,17 @@ copies_read bytes ask attached =
     option_map_or (λ images. 256 * count_by (has_copy ask.kinds.extinode (lengths_of attached)) (found_in ask attached images)) bytes
     (if ask.kinds.extinode then 256 * 4096 else 0)
 
--- the most sectors that it reads: each of each image from the smallest offset to the end once, those of entries, those of leaves, and
--- those from copies on
+-- the most sectors from first sectors of inodes of XFS on that have more: 4 for each that counts and of which its image has them, where
+-- the bytes are known, and else 4 * 4,096
+abbrev pub inodes_read : Option (List (List ℕ)) → Ask → List Image → ℕ
+inodes_read bytes ask attached = option_map_or (λ images. 4 * count_by (has_run (lengths_of attached)) (found_in ask attached images)) bytes (4 * 4096)
+
+-- the most sectors that it reads: each of each image from the smallest offset to the end once, those of entries, those of larger inodes
+-- of XFS, those of leaves, and those from copies on
 unfoldable pub survey_reads : Ask → List Image → ℕ
 survey_reads ask attached =
     length attached * (ask.end - slice_index ask.bounds.offsets.items 0) + entries_read (told_all attached) ask attached
-    + leaves_read (told_all attached) ask attached + copies_read (told_all attached) ask attached
+    + inodes_read (told_all attached) ask attached + leaves_read (told_all attached) ask attached + copies_read (told_all attached) ask attached
 
 -- what the plan repeats
 pub record Repeats (ask : Ask) (attached : List Image) (plan : Plan) : Type 0 where
@@ -72,9 +78,13 @@ pub record Repeats (ask : Ask) (attached : List Image) (plan : Plan) : Type 0 wh
   pub least : plan.tests.least ≡ ask.tests.least
   pub each : plan.each ≡ ask.each
 
--- what it adds, by the images' bytes: groups of the sightings with what some tell of others, and origins
+-- the sightings that count, with how many bytes inodes have
+abbrev pub sized_in : Ask → List Image → List (List ℕ) → List Sighting
+sized_in ask attached images = all_sized (lengths_of attached) images (found_in ask attached images)
+
+-- what it adds, by the images' bytes: groups of these with what some tell of others, and origins
 pub record Adds (ask : Ask) (attached : List Image) (images : List (List ℕ)) (plan : Plan) : Type 0 where
-  pub groups : plan.groups ≡ groups_of ask.kinds (told ask.kinds.extinode (lengths_of attached) images (found_in ask attached images))
+  pub groups : plan.groups ≡ groups_of ask.kinds (told ask.kinds.extinode (lengths_of attached) images (sized_in ask attached images))
   pub origins : plan.tests.origins.items ≡ origins_of ask.tests.origins.items (lengths_of attached) images (found_in ask attached images)
 
 -- a survey ends without a plan where the images failed, and their count of faults rose, or where memory ran out, and

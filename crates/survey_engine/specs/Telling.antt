@@ -13,7 +13,7 @@ use Rattle.btrfstree.specs.declared.header.TreeBlock.{TreeBlock}
 use Rattle.btrfstree.specs.declared.chunks.Chunk.{Chunk}
 use Rattle.survey_engine.specs.declared.landmark.InodePlace.{InodePlace}
 use Rattle.survey_engine.specs.declared.landmark.Landmark.{Landmark}
-use Rattle.survey_engine.specs.declared.landmark.Landmark.TheVariants.{Ext, Inodes, Placed, Tree}
+use Rattle.survey_engine.specs.declared.landmark.Landmark.TheVariants.{Ext, Inode, Inodes, Placed, Tree}
 use Rattle.survey_engine.specs.declared.landmark.TreeSeen.{TreeSeen}
 use Rattle.survey_engine.specs.declared.sighting.Sighting.{Sighting}
 use Rattle.survey_engine.specs.declared.telling.Spot.{Spot}
@@ -73,8 +73,9 @@ begins_leaf landmark = false
 unfoldable pub is_leaf : List ℕ → Sighting → Bool
 is_leaf lengths s = begins_leaf s.landmark && nat_le (s.sector + 32) (slice_index lengths s.image)
 
--- a landmark without what was told of where it lies, and a sighting of it
+-- a landmark without what was told of where it lies, or of how many bytes it has, and a sighting of it
 abbrev pub bare_landmark : Landmark → Landmark
+bare_landmark (Inode i) = Inode (record { inode = i.inode; bytes = None })
 bare_landmark (Tree tree) = Tree (record { block = tree.block; told = None; first = None; second = None })
 bare_landmark (Placed pair place) = Inodes pair
 bare_landmark landmark = landmark

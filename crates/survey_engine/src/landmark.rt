@@ -1,10 +1,9 @@
 //! What a sector may be.
 ghost use Rattle.std.specs.Prelude.{◌≡◌, ◌<◌, ◌^◌, IfSome, IsTrue, slice_index};
 ghost use Rattle.gpt_marks.specs.Header.{gpt_header, IsUnit};
-ghost use Rattle.xfs5.specs.Places.{is_sound as is_sound_place};
 ghost use Rattle.more_marks.specs.Btrfs.{btrfs_super, is_super_address};
 ghost use Rattle.btrfstree.specs.Header.{tree_block};
-ghost use Rattle.survey_engine.specs.Landmarks.{front_in, has_inodes, head_in, inner_in, inode_in, is_asked, kind_of, landmark_in, last_in, is_own, place_of_inodes, record_or_label_in, super_in, super_of, table_in, untold, IsSound};
+ghost use Rattle.survey_engine.specs.Landmarks.{front_in, has_inodes, head_in, inner_in, inode_in, is_asked, kind_of, landmark_in, last_in, is_own, record_or_label_in, start_in, super_in, super_of, table_in, untold, IsSound};
 
 use btrfstree::{TreeBlock, read_block};
 use ext_marks::{ExtSuper, read_ext};
@@ -17,13 +16,16 @@ use ntfs_marks::{NtfsBoot, NtfsRecord, read_boot, read_record};
 use sector_fields::{DISTANCE_LIMIT, SECTOR};
 use uuid::Uuid;
 use xfs_marks::{XfsGroup, XfsSuper, read_group, read_super};
-use xfs5::{XfsInode, XfsInodes, read_inode, read_inodes};
+use xfs5::{XfsInode, XfsInodes, read_inode, read_inodes, read_start};
 
-/// The bytes of the inodes that are looked for: such an inode stands in one sector.
-const INODE: u16 = 512;
+/// The bytes of the smallest inodes of XFS: such an inode stands in one sector.
+const SMALLEST: u16 = 512;
 
-/// Of so many inodes the first begins a stretch of 64 KiB.
+/// Of so many of the smallest inodes the first begins a stretch of 64 KiB.
 const STRETCH: u64 = 128;
+
+/// Of so many of the largest inodes the first does.
+const LARGEST_STRETCH: u64 = 32;
 
 /// A header of a partition table, on a disk whose blocks have `unit` sectors each.
 #[derive(Clone, Copy)]
@@ -47,6 +49,16 @@ pub struct TreeSeen {
     pub second: Option<u64>,
 }
 
+/// An inode of XFS of version 5, with how many bytes it has.
+#[derive(Clone, Copy)]
+pub struct InodeSeen {
+    /// What its first sector says of it.
+    pub inode: XfsInode,
+    /// Its bytes: None where they are more than its first sector, and what lies past that was not looked at or is of no
+    /// inode.
+    pub bytes: Option<u16>,
+}
+
 /// Where two inodes of ext4 lie.
 #[derive(Clone, Copy)]
 pub struct InodePlace {
@@ -67,7 +79,7 @@ pub enum Landmark {
     FileRecord(NtfsRecord),
     /// A superblock of XFS.
     Super(XfsSuper),
-    /// A superblock of XFS of version 5 whose inodes have 512 bytes, with what it says of where they lie.
+    /// A superblock of XFS of version 5, with what it says of where inodes lie.
     Super5(XfsSuper, XfsInodes),
     /// A head of the free space of an XFS allocation group, with the group's number.
     Agf(u32),
@@ -79,8 +91,8 @@ pub enum Landmark {
     Lvm(u64),
     /// A copy of a superblock of ext2, ext3 or ext4.
     Ext(ExtSuper),
-    /// An inode of XFS of version 5 whose number begins a stretch of 64 KiB.
-    Inode(XfsInode),
+    /// An inode of XFS of version 5 whose number begins a stretch of 64 KiB, or what may begin such a one.
+    Inode(InodeSeen),
     /// The first sector of a tree block of btrfs that counts.
     Tree(TreeSeen),
     /// Two inodes of ext4, of which the second has a number that is a multiple of 32.
@@ -91,8 +103,9 @@ pub enum Landmark {
 
 /// The landmark in a sector, on a disk whose blocks have `unit` sectors. A header of a partition table is
 /// nothing else, also where it names a sector of 2^55 or more and so is no landmark. A superblock of btrfs or a
-/// copy of one of ext is what is no landmark by its front, an inode of XFS what is none of these, a tree block of btrfs
-/// what is no such inode either, and two inodes of ext4 what is no other landmark.
+/// copy of one of ext is what is no landmark by its front, an inode of XFS of 512 bytes what is none of these, a tree block
+/// of btrfs what is no such inode either, two inodes of ext4 what is no tree block either, and what may begin a larger
+/// inode of XFS what is no other landmark.
 #[tactic(auto, unfolding(crate::specs::Landmarks::landmark_in, gpt_marks::specs::Header::gpt_header))]
 pub fn read_landmark(sector: &[u8; SECTOR], unit: u64) -> Option<Landmark>
     requires { IsUnit unit }
@@ -162,7 +175,7 @@ fn read_xfs(sector: &[u8; SECTOR]) -> Option<Landmark>
     ensures sound { IfSome result IsSound }
 {
     match read_super(sector) {
-        Some(found) => match read_places(sector) {
+        Some(found) => match read_inodes(sector) {
             Some(places) => Some(Landmark::Super5(found, places)),
             None => Some(Landmark::Super(found)),
         },
@@ -170,30 +183,34 @@ fn read_xfs(sector: &[u8; SECTOR]) -> Option<Landmark>
     }
 }
 
-/// What a superblock says of where inodes of 512 bytes lie.
-#[tactic(auto, unfolding(crate::specs::Landmarks::place_of_inodes))]
-fn read_places(sector: &[u8; SECTOR]) -> Option<XfsInodes>
-    ensures places { result ≡ place_of_inodes sector.now }
-    ensures sound { IfSome result (λ x. IsTrue (is_sound_place x)) }
-{
-    match read_inodes(sector) {
-        Some(places) if places.inode == INODE => Some(places),
-        _ => None,
-    }
-}
-
 /// The inode of 512 bytes in a sector, where its number begins a stretch of 64 KiB.
 #[tactic(auto, unfolding(crate::specs::Landmarks::inode_in))]
-fn read_mark(sector: &[u8; SECTOR]) -> Option<XfsInode>
+fn read_mark(sector: &[u8; SECTOR]) -> Option<InodeSeen>
     ensures { result ≡ inode_in sector.now }
 {
     match read_inode(sector, &[]) {
-        Some(inode) if inode.number % STRETCH == 0 => Some(inode),
+        Some(inode) if inode.number % STRETCH == 0 => Some(InodeSeen {
+            inode,
+            bytes: Some(SMALLEST),
+        }),
         _ => None,
     }
 }
 
-/// An inode of XFS, a tree block of btrfs, or two inodes of ext4.
+/// The inode of more bytes that may begin in a sector, where its number may begin a stretch of 64 KiB.
+#[tactic(auto, unfolding(crate::specs::Landmarks::start_in))]
+fn read_larger_start(sector: &[u8; SECTOR]) -> Option<InodeSeen>
+    ensures { result ≡ start_in sector.now }
+{
+    let inode = read_start(sector)?;
+    if inode.number % LARGEST_STRETCH == 0 && read_inode(sector, &[]).is_none() {
+        Some(InodeSeen { inode, bytes: None })
+    } else {
+        None
+    }
+}
+
+/// An inode of XFS, a tree block of btrfs, two inodes of ext4, or what may begin a larger inode of XFS.
 #[tactic(auto, unfolding(crate::specs::Landmarks::last_in))]
 fn read_last(sector: &[u8; SECTOR]) -> Option<Landmark>
     ensures landmark { result ≡ last_in sector.now }
@@ -203,7 +220,10 @@ fn read_last(sector: &[u8; SECTOR]) -> Option<Landmark>
         Some(inode) => Some(Landmark::Inode(inode)),
         None => match find_tree(sector) {
             Some(block) => Some(untold(block)),
-            None => read_any_pair(sector).map(Landmark::Inodes),
+            None => match read_any_pair(sector) {
+                Some(pair) => Some(Landmark::Inodes(pair)),
+                None => read_larger_start(sector).map(Landmark::Inode),
+            },
         },
     }
 }

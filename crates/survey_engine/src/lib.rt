@@ -12,13 +12,15 @@
 //!
 //! A tree block of btrfs has its logical address alone. Where that lies is told by leaves of the tree of chunks, which are
 //! read after the sweep. An inode of ext4 has not even its number: that, and where the inode lies, is told by a copy of a
-//! superblock of ext and the descriptors behind it: `specs/Telling`.
+//! superblock of ext and the descriptors behind it: `specs/Telling`. Of an inode of XFS of 1,024 or 2,048 bytes the sweep
+//! sees the first sector alone, and what lies past it is read then: `specs/Sizing`.
 //!
 //! What a sector may be stands in `specs/Landmarks`, which are sightings and count in `specs/Sightings`,
 //! groups and the rules of their marks in `specs/Owners`, the origins in `specs/Origins`, and the plan in
 //! `specs/Surveys`. Each filters one list of all sectors; the code looks at each sector once. That no sector is by its
-//! front of two kinds is the law [`no_sector_is_of_two_kinds`]; a superblock of btrfs or ext is what is none of them, an inode of XFS
-//! what is none of these, a tree block what is no such inode either, and two inodes of ext4 what is nothing else.
+//! front of two kinds is the law [`no_sector_is_of_two_kinds`]; a superblock of btrfs or ext is what is none of them, an inode of XFS of
+//! 512 bytes what is none of these, a tree block what is no such inode either, two inodes of ext4 what is no tree block either, and
+//! what may begin a larger inode of XFS what is nothing else.
 #![tactic(auto)]
 
 mod ask;
@@ -32,6 +34,7 @@ mod landmark;
 mod owner;
 mod planning;
 mod sighting;
+mod sizing;
 mod sweep;
 mod telling;
 

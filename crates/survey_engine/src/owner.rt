@@ -1,17 +1,17 @@
 //! What marks belong to, and where they may lie.
-ghost use Rattle.std.specs.Prelude.{◌≡◌, ◌+◌, ◌*◌, ◌^◌, ◌<◌, ◌≤◌, if◌then◌else◌, Some, None, IsTrue};
+ghost use Rattle.std.specs.Prelude.{◌≡◌, ◌+◌, ◌*◌, ◌^◌, ◌<◌, ◌≤◌, ◌==◌, false, if◌then◌else◌, Some, None, IsTrue};
 ghost use Rattle.std.specs.Str.{bytes_eq};
 ghost use Rattle.ntfs_marks.specs.Boot.{is_within_limit, record_sector};
 ghost use Rattle.xfs_marks.specs.Superblock.{ag_sectors, is_sound};
-ghost use Rattle.std.specs.Option.{is_some, option_map};
+ghost use Rattle.std.specs.Option.{is_some, option_map, option_map_or};
 ghost use Rattle.landmark_rules.specs.declared.marks.Rule.TheVariants.{At};
 ghost use Rattle.xfs5.specs.Places.{inode_sector, is_sound as is_sound_place};
 ghost use Rattle.survey_engine.specs.Landmarks.{IsSound};
-ghost use Rattle.survey_engine.specs.Owners.{group_kind, ag_rule, inodes_owner, is_same_boot, is_same_owner, is_same_super, is_same_volume, inodes_rule, owner_for, owner_in, record_rule, rule_in, start_rule, begins_sector, tree_rule, volume_of, IsSoundOwner};
+ghost use Rattle.survey_engine.specs.Owners.{group_kind, ag_rule, inodes_owner, is_same_boot, is_same_owner, is_same_super, is_mark_of, is_same_volume, inodes_rule, owner_for, owner_in, record_rule, rule_in, start_rule, begins_sector, tree_rule, volume_of, IsSoundOwner};
 ghost use Rattle.survey_engine.specs.declared.owner.Owner.TheVariants.{Extinode, Trees};
 ghost use Rattle.survey_engine.specs.Sightings.{sighted_at};
 
-use crate::landmark::{InodePlace, Landmark, TreeSeen};
+use crate::landmark::{InodePlace, InodeSeen, Landmark, TreeSeen};
 use crate::sighting::Sighting;
 use ext_marks::ExtSuper;
 use landmark_rules::{GroupKind, Rule};
@@ -177,8 +177,9 @@ impl Owner {
             }
             (Owner::Ext(volume), Landmark::Ext(copy)) if is_same_volume(volume, &volume_of(copy)) =>
                 { Some(Rule::At(copy.copy_sector)) }
-            (Owner::Xfs5(places), Landmark::Inode(inode))
-                if is_same_uuid(&places.uuid, &inode.uuid) => inode_rule(places, inode),
+            (Owner::Xfs5(places), Landmark::Inode(seen)) if is_mark_of(places, seen) => {
+                inode_rule(places, &seen.inode)
+            }
             (Owner::Trees(identifier), Landmark::Tree(tree))
                 if is_same_uuid(identifier, &tree.block.identifier) => tree_rule(tree),
             (Owner::Extinode(identifier), Landmark::Placed(_, place))
@@ -252,6 +253,27 @@ fn record_sector(boot: &NtfsBoot, first_cluster: u64, number: u32) -> u64
     ensures { result ≡ record_sector boot.now first_cluster number }
 {
     first_cluster * boot.cluster + number as u64 * (boot.record_bytes / SECTOR as u32) as u64
+}
+
+/// Whether an inode is a mark of an XFS: it has its identifier, as many bytes as the inodes there, and begins a stretch of
+/// 64 KiB.
+#[tactic(auto, unfolding(crate::specs::Owners::is_mark_of))]
+fn is_mark_of(places: &XfsInodes, seen: &InodeSeen) -> bool
+    ensures { result ≡ is_mark_of places.now seen.now }
+{
+    is_same_uuid(&places.uuid, &seen.inode.uuid)
+        && has_size(places, seen.bytes)
+        && places.is_mark(seen.inode.number)
+}
+
+/// Whether inodes of an XFS have so many bytes.
+fn has_size(places: &XfsInodes, bytes: Option<u16>) -> bool
+    ensures { result ≡ option_map_or (λ bytes. bytes == places.now.inode) bytes false }
+{
+    match bytes {
+        Some(bytes) => bytes == places.inode,
+        None => false,
+    }
 }
 
 /// Where an inode may lie in a file system, if that has its group and block.

@@ -8,7 +8,7 @@ use Rattle.outside.specs.Seen.{Image, lengths_of}
 use Rattle.search_plan.specs.declared.plan.Plan.{Plan}
 use Rattle.survey_engine.specs.Origins.{origins_of}
 use Rattle.survey_engine.specs.Owners.{groups_of}
-use Rattle.survey_engine.specs.Surveys.{found_in, survey_reads as reads_of}
+use Rattle.survey_engine.specs.Surveys.{found_in, sized_in, survey_reads as reads_of}
 use Rattle.survey_engine.specs.Telling.{told as told_sightings}
 use Rattle.survey_engine.specs.declared.ask.Ask.{Ask}
 use Rattle.plan_text.specs.PlanText.{plan_text}
@@ -46,7 +46,7 @@ survey_plan ask attached images = record {
     misfits = ask.tests.misfits;
     least = ask.tests.least;
   };
-  groups = groups_of ask.kinds (told_sightings ask.kinds.extinode (lengths_of attached) images (found_in ask attached images));
+  groups = groups_of ask.kinds (told_sightings ask.kinds.extinode (lengths_of attached) images (sized_in ask attached images));
   each = ask.each;
 }
 
@@ -64,8 +64,8 @@ unfoldable pub survey_output : SurveyWords → ℕ → List Image → Option (Li
 survey_output asked names attached told =
     option_map (λ images. plan_text (survey_plan (ask_of asked names (end_of asked.end attached)) attached images)) told
 
--- the most sectors that `survey` reads: each sector of each image from the smallest offset to the end once, and one of
--- entries for each header that counts and that entries follow
+-- the most sectors that `survey` reads: each sector of each image from the smallest offset to the end once, and those that are read for
+-- what sightings tell
 abbrev pub survey_reads : SurveyWords → List Image → ℕ
 survey_reads asked attached = reads_of (ask_of asked (length attached) (end_of asked.end attached)) attached
 

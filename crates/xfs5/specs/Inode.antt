@@ -15,12 +15,15 @@ unfoldable pub inode_register : List ℕ → List ℕ → ℕ
 inode_register s rest =
     register_after 0xFFFFFFFF (slice_range s 0 100 ++ ((0 ∷ 0 ∷ 0 ∷ 0 ∷ []) ++ (slice_range s 104 512 ++ rest)))
 
--- the facts that make them an inode of version 3, which file systems of version 5 have: its checksum is that register, inverted
-unfoldable pub is_inode : List ℕ → List ℕ → Bool
-is_inode s rest =
+-- an inode of version 3, which file systems of version 5 have, seems to begin: its checksum is not looked at
+unfoldable pub begins_inode : List ℕ → Bool
+begins_inode s =
     has_bytes s 0 (codes "IN")  -- di_magic: 2 bytes at 0
     && (slice_index s 4 == 3)  -- di_version: u8 at 4
-    && (inode_register s rest + u32_le s 100 == 0xFFFFFFFF)  -- di_crc: u32 at 100, little-endian
+
+-- they are one: its checksum is that register, inverted
+unfoldable pub is_inode : List ℕ → List ℕ → Bool
+is_inode s rest = begins_inode s && (inode_register s rest + u32_le s 100 == 0xFFFFFFFF)  -- di_crc: u32 at 100, little-endian
 
 -- its number and the identifier of its file system
 unfoldable pub inode_of : List ℕ → XfsInode
@@ -32,3 +35,14 @@ inode_of s = record {
 -- those, if they are an inode
 unfoldable pub xfs_inode : List ℕ → List ℕ → Option XfsInode
 xfs_inode s rest = if is_inode s rest then Some (inode_of s) else None
+
+-- the number and the identifier of an inode that seems to begin
+unfoldable pub inode_start : List ℕ → Option XfsInode
+inode_start s = if begins_inode s then Some (inode_of s) else None
+
+-- how many bytes an inode of more than 512 has with which 2,048 bytes begin: the fewer, 1,024, if its checksum is that of both
+unfoldable pub larger_inode : List ℕ → Option ℕ
+larger_inode run =
+    if is_inode (slice_range run 0 512) (slice_range run 512 1024) then Some 1024
+    else if is_inode (slice_range run 0 512) (slice_range run 512 2048) then Some 2048
+    else None

@@ -1,7 +1,7 @@
 //! An inode.
 
 ghost use Rattle.std.specs.Prelude.{◌≡◌, ◌+◌, ◌≤◌};
-ghost use Rattle.xfs5.specs.Inode.{inode_of, inode_register, is_inode, u64_be, xfs_inode};
+ghost use Rattle.xfs5.specs.Inode.{begins_inode, inode_of, inode_register, inode_start, is_inode, larger_inode, u64_be, xfs_inode};
 
 use byteorder::{BigEndian, ByteOrder};
 use sector_fields::{SECTOR, has_bytes, u32_le, uuid_at};
@@ -9,6 +9,12 @@ use uuid::Uuid;
 
 /// The register with which checksums begin.
 const ALL_ONES: u32 = 0xFFFF_FFFF;
+
+/// The most bytes of an inode.
+pub const LARGEST_INODE: usize = 2048;
+
+/// The sectors of the largest inode.
+pub const LARGEST_SECTORS: usize = LARGEST_INODE / SECTOR;
 
 /// What an inode says of itself.
 #[derive(Clone, Copy, PartialEq, Eq)]
@@ -33,14 +39,50 @@ pub fn read_inode(sector: &[u8; SECTOR], rest: &[u8]) -> Option<XfsInode>
     }
 }
 
+/// The inode that seems to begin in the sector, whatever its checksum. None where the magic number or the version is
+/// another.
+#[tactic(auto, unfolding(crate::specs::Inode::inode_start))]
+pub fn read_start(sector: &[u8; SECTOR]) -> Option<XfsInode>
+    ensures { result ≡ inode_start sector.now }
+{
+    if begins_inode(sector) {
+        Some(inode_of(sector))
+    } else {
+        None
+    }
+}
+
+/// How many bytes the inode has that begins the run, where those are more than 512: 1,024 or 2,048, by its checksum. None
+/// where no such inode begins.
+#[tactic(auto, unfolding(crate::specs::Inode::larger_inode))]
+pub fn read_larger(run: &[u8; LARGEST_INODE]) -> Option<u16>
+    ensures { result ≡ larger_inode run.now }
+{
+    let sector = run[0..SECTOR].as_array().unwrap();
+    if is_inode(sector, &run[SECTOR..1024]) {
+        Some(1024)
+    } else if is_inode(sector, &run[SECTOR..LARGEST_INODE]) {
+        Some(2048)
+    } else {
+        None
+    }
+}
+
 /// Whether an inode with a right checksum begins in the sector.
 #[tactic(auto, unfolding(crate::specs::Inode::is_inode))]
 fn is_inode(sector: &[u8; SECTOR], rest: &[u8]) -> bool
     ensures { result ≡ is_inode sector.now rest.now }
 {
-    has_bytes(sector, 0, b"IN")
-        && sector[4] == 3
+    begins_inode(sector)
         && inode_register(sector, rest) as u64 + u32_le(sector, 100) as u64 == ALL_ONES as u64
+}
+
+/// Whether an inode seems to begin in the sector.
+#[tactic(auto, unfolding(crate::specs::Inode::begins_inode))]
+fn begins_inode(sector: &[u8; SECTOR]) -> bool
+    ensures { result ≡ begins_inode sector.now }
+{
+    has_bytes(sector, 0, b"IN") && sector[4] == 3
 }
 
 /// The register that an inode leaves.

@@ -1,11 +1,12 @@
-use Rattle.std.proofs.Common.{◌≡◌, ◌^◌, ◌<◌, ◌≤◌, rules}
+use Rattle.std.proofs.Common.{◌≡◌, ◌^◌, ◌<◌, ◌≤◌, refl, rules}
 use Rattle.std.proofs.lemmas.List.Elements.{All-same}
 use Rattle.survey_engine.specs.Origins.{AreOrigins}
 use Rattle.survey_engine.specs.Owners.{groups_of}
 use Rattle.survey_engine.specs.Sightings.{AreSightings}
 use Rattle.outside.specs.Seen.{lengths_of}
-use Rattle.survey_engine.proofs.Told.{none_read, survey_read, sweep_read}
+use Rattle.survey_engine.proofs.Told.{none_read, none_sized, survey_read, sweep_read}
 use Rattle.survey_engine.proofs.Law.{are_groups}
+use Rattle.survey_engine.proofs.Leaves.{are_alike}
 use Rattle.survey_engine.proofs.Lengths.{are_lengths, are_short, reach_end}
 use Rattle.survey_engine.proofs.planning.survey.Goals as goal
 
@@ -13,9 +14,16 @@ pub origins-requires-clause-short : goal.origins-requires-clause-short
 origins-requires-clause-short g c =
     All-same (λ n. n < 2 ^ 55) c.deref-2.result.now (lengths_of (g.I.Images.seen c.args.images.now).attached) (search rules) (are_short (g.I.Images.seen c.args.images.now).attached c.requires.short)
 
+pub size_inodes-requires-clause-short : goal.size_inodes-requires-clause-short
+size_inodes-requires-clause-short g c =
+    All-same (λ n. n < 2 ^ 55) c.deref-4.result.now (lengths_of (g.I.Images.seen c.args.images.now).attached) (search rules) (are_short (g.I.Images.seen c.args.images.now).attached c.requires.short)
+
+pub tell-requires-clause-found : goal.tell-requires-clause-found
+tell-requires-clause-found g c = are_alike c.deref-5.result.now c.in_ok-found.found.items c.size_inodes.new.found c.size_inodes.ensures.alike (search rules)
+
 pub tell-requires-clause-short : goal.tell-requires-clause-short
 tell-requires-clause-short g c =
-    All-same (λ n. n < 2 ^ 55) c.deref-4.result.now (lengths_of (g.I.Images.seen c.args.images.now).attached) (search rules) (are_short (g.I.Images.seen c.args.images.now).attached c.requires.short)
+    All-same (λ n. n < 2 ^ 55) c.deref-5.result.now (lengths_of (g.I.Images.seen c.args.images.now).attached) (search rules) (are_short (g.I.Images.seen c.args.images.now).attached c.requires.short)
 
 pub returns-clause-plan : goal.returns-clause-plan
 returns-clause-plan g c =
@@ -38,8 +46,8 @@ returns-clause-plan g c =
 pub returns-clause-reads : goal.returns-clause-reads
 returns-clause-reads g c =
     let are : AreSightings c.deref.result.now c.in_ok-found.found.items = search rules in
-    survey_read (g.I.Images.seen c.args.images.now) (g.I.Images.seen c.gather.new.images) (g.I.Images.seen c.origins.new.images) (g.I.Images.seen c.tell.new.images) c.args.ask.now c.lengths-lengths.result.items c.in_ok-found.found.items
-    (search rules) (search rules) are.few (search rules) (search rules) (search rules)
+    survey_read (g.I.Images.seen c.args.images.now) (g.I.Images.seen c.gather.new.images) (g.I.Images.seen c.origins.new.images) (g.I.Images.seen c.size_inodes.new.images) (g.I.Images.seen c.tell.new.images) c.args.ask.now c.lengths-lengths.result.items c.in_ok-found.found.items c.size_inodes.new.found
+    (search rules) (search rules) are.few c.size_inodes.ensures.alike (search rules) (search rules) (search rules) (search rules)
 
 pub returns-in_err-found-clause-reads : goal.returns-in_err-found-clause-reads
 returns-in_err-found-clause-reads g c = sweep_read (g.I.Images.seen c.args.images.now) (g.I.Images.seen c.gather.new.images) c.args.ask.now (search rules)
@@ -47,17 +55,25 @@ returns-in_err-found-clause-reads g c = sweep_read (g.I.Images.seen c.args.image
 pub returns-in_err-origins-clause-reads : goal.returns-in_err-origins-clause-reads
 returns-in_err-origins-clause-reads g c =
     let are : AreSightings c.deref.result.now c.in_ok-found.found.items = search rules in
-    survey_read (g.I.Images.seen c.args.images.now) (g.I.Images.seen c.gather.new.images) (g.I.Images.seen c.origins.new.images) (g.I.Images.seen c.origins.new.images) c.args.ask.now c.lengths-lengths.result.items c.in_ok-found.found.items
-    (search rules) (search rules) are.few (search rules) (search rules) (none_read (g.I.Images.seen c.origins.new.images) c.args.ask.now.kinds.extinode c.lengths-lengths.result.items c.in_ok-found.found.items)
+    let there = g.I.Images.seen c.origins.new.images in
+    survey_read (g.I.Images.seen c.args.images.now) (g.I.Images.seen c.gather.new.images) there there there c.args.ask.now c.lengths-lengths.result.items c.in_ok-found.found.items c.in_ok-found.found.items
+    (search rules) (search rules) are.few refl (search rules) (search rules) (none_sized there c.lengths-lengths.result.items c.in_ok-found.found.items) (none_read there c.args.ask.now.kinds.extinode c.lengths-lengths.result.items c.in_ok-found.found.items)
 
 pub returns-in_err-map_err-clause-reads : goal.returns-in_err-map_err-clause-reads
 returns-in_err-map_err-clause-reads g c =
     let are : AreSightings c.deref.result.now c.in_ok-found.found.items = search rules in
-    survey_read (g.I.Images.seen c.args.images.now) (g.I.Images.seen c.gather.new.images) (g.I.Images.seen c.origins.new.images) (g.I.Images.seen c.tell.new.images) c.args.ask.now c.lengths-lengths.result.items c.in_ok-found.found.items
-    (search rules) (search rules) are.few (search rules) (search rules) (search rules)
+    let there = g.I.Images.seen c.size_inodes.new.images in
+    survey_read (g.I.Images.seen c.args.images.now) (g.I.Images.seen c.gather.new.images) (g.I.Images.seen c.origins.new.images) there there c.args.ask.now c.lengths-lengths.result.items c.in_ok-found.found.items c.in_ok-found.found.items
+    (search rules) (search rules) are.few refl (search rules) (search rules) (search rules) (none_read there c.args.ask.now.kinds.extinode c.lengths-lengths.result.items c.in_ok-found.found.items)
+
+pub returns-in_err-map_err-2-clause-reads : goal.returns-in_err-map_err-2-clause-reads
+returns-in_err-map_err-2-clause-reads g c =
+    let are : AreSightings c.deref.result.now c.in_ok-found.found.items = search rules in
+    survey_read (g.I.Images.seen c.args.images.now) (g.I.Images.seen c.gather.new.images) (g.I.Images.seen c.origins.new.images) (g.I.Images.seen c.size_inodes.new.images) (g.I.Images.seen c.tell.new.images) c.args.ask.now c.lengths-lengths.result.items c.in_ok-found.found.items c.size_inodes.new.found
+    (search rules) (search rules) are.few c.size_inodes.ensures.alike (search rules) (search rules) (search rules) (search rules)
 
 pub returns-in_err-groups-clause-reads : goal.returns-in_err-groups-clause-reads
 returns-in_err-groups-clause-reads g c =
     let are : AreSightings c.deref.result.now c.in_ok-found.found.items = search rules in
-    survey_read (g.I.Images.seen c.args.images.now) (g.I.Images.seen c.gather.new.images) (g.I.Images.seen c.origins.new.images) (g.I.Images.seen c.tell.new.images) c.args.ask.now c.lengths-lengths.result.items c.in_ok-found.found.items
-    (search rules) (search rules) are.few (search rules) (search rules) (search rules)
+    survey_read (g.I.Images.seen c.args.images.now) (g.I.Images.seen c.gather.new.images) (g.I.Images.seen c.origins.new.images) (g.I.Images.seen c.size_inodes.new.images) (g.I.Images.seen c.tell.new.images) c.args.ask.now c.lengths-lengths.result.items c.in_ok-found.found.items c.size_inodes.new.found
+    (search rules) (search rules) are.few c.size_inodes.ensures.alike (search rules) (search rules) (search rules) (search rules)

@@ -29,8 +29,8 @@ class XfsMaker:
     def __init__(self, rng):
         self.rng, self.identifiers = rng, rng.choice([1, 1, 2, 3])
         self.size, self.bits, self.block_bits, self.group_blocks, self.groups = 512, 3, 5, 17, 4
-        if rng.random() < 0.35:
-            self.size = rng.choice([512] * 6 + [1024, 2048, 256])
+        if rng.random() < 0.5:
+            self.size = rng.choice([512, 512, 1024, 1024, 2048, 2048, 256])
             self.bits = rng.choice([3, 3, 0, 1, 7])
             self.block_bits = rng.choice([5, 10, 15, 31, 32])
             self.group_blocks = rng.choice([17, 32, 2 ** min(self.block_bits, 31), 2 ** min(self.block_bits, 31) + 1, 1])
@@ -64,11 +64,14 @@ class XfsMaker:
         if rng.random() < 0.15:
             block = rng.choice([self.group_blocks - 1, self.group_blocks, 2 ** self.block_bits - 1])
         number = ((group << self.block_bits) + block) << self.bits
-        return (number // 128 * 128 if rng.random() < 0.85 else number + rng.choice([0, 1, 64])) % RANKS
+        stretch = 65536 // self.size
+        return (number // stretch * stretch if rng.random() < 0.85 else number + rng.choice([0, 1, 16, 32, 64])) % RANKS
 
     def inode(self):
-        """Mostly an inode; sometimes it has what others have at their places."""
-        rng, block = self.rng, bytearray(SECTOR)
+        """Mostly an inode; sometimes it has what others have at their places, or another size."""
+        rng, size = self.rng, max(SECTOR, self.size)
+        size = size if rng.random() < 0.9 else rng.choice([512, 1024, 1536, 2048])
+        block = bytearray(SECTOR) + rng.randbytes(size - SECTOR)
         block[:2], block[4] = b"IN" if rng.random() < 0.98 else b"IO", rng.choice([3] * 30 + [2])
         block[176:180] = rng.randbytes(4)
         if rng.random() < 0.05:
@@ -91,16 +94,28 @@ def xfs_sectors(rng):
     """Sectors of file systems of XFS."""
     maker = XfsMaker(rng)
     made = [maker.superblock() for _ in range(rng.choice([0, 1, 1, 1, 1, 2, 3]))] + [maker.inode() for _ in range(rng.choice([1, 5, 10]))]
-    made += [added_sectors(rng.sample(made, 3))] if len(made) > 4 and rng.random() < 0.5 else []
-    made += [added_sectors([maker.inode() for _ in range(3)])] if rng.random() < 0.5 else []
+    made += [added_sectors([block[:SECTOR] for block in rng.sample(made, 3)])] if len(made) > 4 and rng.random() < 0.5 else []
+    made += [added_sectors([maker.inode()[:SECTOR] for _ in range(3)])] if rng.random() < 0.5 else []
     return [changed(rng, block, 0.04) for block in made]
+
+
+def put_inodes(rng, made, images):
+    """Puts sectors and inodes anywhere into images of 64 sectors. Larger ones may overwrite each other, lie at an image's end, where their last
+    sectors may be cut off, or have these on the next image."""
+    for block, place in zip(made, rng.sample(range(64 * len(images)), len(made))):
+        image, sector = divmod(place, 64)
+        if len(block) > SECTOR and rng.random() < 0.1:
+            sector = rng.choice([60, 61, 62, 63])
+        for at in range(0, len(block), SECTOR):
+            image = (image + 1) % len(images) if at == SECTOR and rng.random() < 0.05 else image
+            if sector + at // SECTOR < 64:
+                images[image][sector * SECTOR + at:(sector + 1) * SECTOR + at] = block[at:at + SECTOR]
 
 
 def inodes_survey(rng, operands):
     """Images with such sectors, in any order."""
     made, images = xfs_sectors(rng), [bytearray(64 * SECTOR) for _ in range(rng.choice([1, 2, 3]))]
-    for block, place in zip(made, rng.sample(range(64 * len(images)), len(made))):
-        images[place // 64][place % 64 * SECTOR:(place % 64 + 1) * SECTOR] = block
+    put_inodes(rng, made, images)
     kinds = rng.choice(["kinds=xfs5", "kinds=xfs5", "kinds=xfs,xfs5", "kinds=gpt,ntfs,xfs,btrfs,lvm,ext,xfs5", "kinds=xfs", "kinds=btrfs,ext,xfs5"])
     files = files_of([bytes(image) for image in images])
     return Case(["survey", *shuffled(rng, [kinds, *(word for word in operands(rng, images) if not word.startswith("kinds="))]), "--", *files], b"",
@@ -110,8 +125,9 @@ def inodes_survey(rng, operands):
 def crowded_inodes(rng):
     """About as many inodes as count, some of which lie nowhere or are of no file system that is told."""
     maker = XfsMaker(rng)
-    maker.size, maker.bits, maker.groups, maker.block_bits, maker.group_blocks = 512, 3, 4, 10, 17
-    block, other = (with_checksum(numbered(number, b"inodes\0".ljust(16, b"\3")), 100) for number in (128, 127 * 128))
+    maker.size = rng.choice([512, 512, 1024])
+    maker.bits, maker.groups, maker.block_bits, maker.group_blocks = {512: 3, 1024: 2}[maker.size], 4, 10, 17
+    block, other = (with_checksum(numbered(number, b"inodes\0".ljust(16, b"\3"), maker.size), 100) for number in (128, 127 * 128))
     count = rng.choice([2045, 2046, 2047, 2048])
     if rng.random() < 0.3:
         # superblocks of version 4, which tell nothing of inodes, do not count
@@ -124,9 +140,9 @@ def crowded_inodes(rng):
     return Case(["survey", "kinds=xfs5", *rng.choice([[], ["drop=0:1,1:3"], ["offsets=1"], ["end=2049"]]), "--", *files], b"", files)
 
 
-def numbered(number, identifier):
+def numbered(number, identifier, size):
     """An inode of this number, but for its checksum."""
-    block = bytearray(SECTOR)
+    block = bytearray(size)
     block[:2], block[4], block[160:176] = b"IN", 3, identifier
     struct.pack_into(">Q", block, 152, number)
     return bytes(block)

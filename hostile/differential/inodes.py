@@ -30,10 +30,20 @@ def register_after(register, data):
 
 # XFS of version 5
 
+LARGEST = 2048  # bytes of an inode
+
+
 class XfsInode(NamedTuple):
-    """An inode, by its number and the identifier of its file system."""
+    """What the first sector of an inode says: its number, the identifier of its file system, and whether the inode has this sector alone."""
     number: int
     uuid: bytes
+    is_small: bool
+
+    def size(self, run):
+        """How many bytes it has, by the bytes that were read from its sector on, if it is one."""
+        if self.is_small:
+            return SECTOR
+        return next((size for size in (1024, LARGEST) if len(run) == LARGEST and is_whole(run[:size])), None)
 
 
 class XfsPlaces(NamedTuple):
@@ -55,22 +65,26 @@ class XfsPlaces(NamedTuple):
         return ((group * self.group_blocks + block) * self.block + inode * self.size) // SECTOR
 
 
+def is_whole(inode):
+    """Whether its checksum is that of all these bytes."""
+    told, = struct.unpack_from("<I", inode, 100)
+    return register_after(ALL_ONES, inode[:100] + bytes(4) + inode[104:]) ^ ALL_ONES == told
+
+
 def xfs_inode(sector):
-    """The inode of 512 bytes that a sector is."""
+    """The inode that begins with a sector, or may begin with it: of its stretch it is the first, or may be."""
     if sector[:2] != b"IN" or sector[4] != 3:
         return None
-    told, = struct.unpack_from("<I", sector, 100)
-    if register_after(ALL_ONES, sector[:100] + bytes(4) + sector[104:]) ^ ALL_ONES != told:
-        return None
     number, = struct.unpack_from(">Q", sector, 152)
-    return XfsInode(number, sector[160:176])
+    found = XfsInode(number, sector[160:176], is_whole(sector))
+    return found if number * (SECTOR if found.is_small else LARGEST) % STRETCH == 0 else None
 
 
 def xfs_places(sector):
-    """What a superblock of version 5 with inodes of 512 bytes says of them."""
+    """What a superblock of version 5 says of its inodes."""
     version, size = struct.unpack_from(">H2xH", sector, 100)
     block, group_blocks, groups, incompatible = (struct.unpack_from(">I", sector, at)[0] for at in (4, 84, 88, 216))
-    if sector[:4] != b"XFSB" or version & 15 != 5 or size != 512:
+    if sector[:4] != b"XFSB" or version & 15 != 5 or size not in (512, 1024, LARGEST):
         return None
     found = XfsPlaces(sector[248:264] if incompatible & 4 else sector[32:48], block, group_blocks, groups, size, sector[123], sector[124])
     if found.inode_bits > 7 or size << found.inode_bits != block or not 0 < group_blocks <= 2 ** min(31, found.block_bits):

@@ -11,7 +11,7 @@ from typing import NamedTuple
 
 import pairs
 import trees
-from inodes import STRETCH, XfsPlaces, xfs_inode, xfs_places
+from inodes import LARGEST, STRETCH, XfsPlaces, xfs_inode, xfs_places
 from texts import FAR, MARKS_OF, SECTOR, Group, Mark
 
 
@@ -50,7 +50,7 @@ def record(sector):
 
 
 class Super(NamedTuple):
-    """A superblock of XFS: the fields in which those of one file system agree, and, if it tells them, where inodes of 512 bytes lie."""
+    """A superblock of XFS: the fields in which those of one file system agree, and, if it tells that, where inodes lie."""
     fields: tuple
     places: XfsPlaces
 
@@ -99,13 +99,8 @@ def ext(sector):
     return (sector[104:120], 1024 << power, blocks), (first + group * blocks) * (2 << power)
 
 
-def xfs5(sector):
-    found = xfs_inode(sector)
-    return found if found and found.number * SECTOR % STRETCH == 0 else None
-
-
 READERS = {"gpt": gpt, "boot": boot, "record": record, "super": super_block, "agf": head_of_group(b"XAGF"),
-           "agi": head_of_group(b"XAGI"), "lvm": label, "btrfs": btrfs, "ext": ext, "xfs5": xfs5,
+           "agi": head_of_group(b"XAGI"), "lvm": label, "btrfs": btrfs, "ext": ext, "xfs5": xfs_inode,
            "btrfstree": trees.tree_block, "extinode": pairs.pair}
 MAGICS = {b"EFI ": "gpt", b"FILE": "record", b"XFSB": "super", b"XAGF": "agf", b"XAGI": "agi", b"LABE": "lvm"}
 
@@ -116,9 +111,11 @@ def read(block):
     for kind in (told, "btrfs" if block[64:66] == b"_B" else None, "ext" if block[56:58] == b"\x53\xEF" else None,
                  "xfs5" if block[:2] == b"IN" else None, "btrfstree", "extinode"):
         found = READERS[kind](block) if kind else None
-        if found is not None:
+        if found is not None and (kind != "xfs5" or found.is_small):
             return kind, found
-    return None, None
+    # what may begin a larger inode is of no other kind
+    found = xfs_inode(block)
+    return ("xfs5", found) if found else (None, None)
 
 
 def own_table(header, sector, length, unit):
@@ -178,14 +175,19 @@ def gathered(kind, seen, key, rule):
     return [Group(kind, marks) for marks in list(groups.values())[:32]]
 
 
-def xfs5_groups(seen):
-    """A group for each identifier of inodes that a superblock tells; the first superblock that does says where they lie."""
+def xfs5_groups(seen, images):
+    """A group for each identifier of inodes that a superblock tells; the first superblock that does says where they lie. How many bytes an
+    inode has, it says itself, with those that follow where it was seen."""
     systems = {}
     for _, _, found in seen["super"]:
         if found.places:
             systems.setdefault(found.places.uuid, found.places)
+
+    def is_mark(sector, place, found, places):
+        size = found.size(images[place][sector * SECTOR:sector * SECTOR + LARGEST])
+        return size == places.size and found.number * size % STRETCH == 0 and places.sector(found.number) is not None
     return [Group("xfs5", [Mark("xfs5", place, sector, f"at:{places.sector(found.number)}") for sector, place, found in seen["xfs5"]
-                           if found.uuid == identifier and places.sector(found.number) is not None])
+                           if found.uuid == identifier and is_mark(sector, place, found, places)])
             for identifier, places in list(systems.items())[:32]]
 
 
@@ -241,4 +243,4 @@ def groups_of(seen, images, unit, kinds):
     if "ext" in kinds:
         groups += gathered("ext", seen, lambda sector, place, found: found[0], lambda found: found[1])
     groups += pair_groups(seen, images) if "extinode" in kinds else []
-    return groups + (xfs5_groups(seen) if "xfs5" in kinds else []) + tree_groups(seen, images)
+    return groups + (xfs5_groups(seen, images) if "xfs5" in kinds else []) + tree_groups(seen, images)

@@ -458,8 +458,38 @@ def inodes():
         head, there = (printed("xfs_sectors", name) for name in names)
         assert struct.unpack_from(">Q", there, 152) == (inode,)
         seen({9: head, 5: there}, f"group xfs5\nmark xfs5 0 5 at:{place}\n")
-    seen({9: printed("xfs_sectors", "LARGE_SUPER"), 5: printed("xfs_sectors", "LARGE_INODE")}, "")
     row(f"{words} kinds=xfs5,ext", [with_sectors(4, {})], status=1, line="word 9 is not understood")
+
+
+def larger_inodes():
+    """Inodes of 1,024 and of 2,048 bytes of file systems of other hands, and the places that xfs_db prints."""
+    asked = {"levels": 0, "members": 2, "patterns": "plain", "syndromes": "none", "chunks": 1, "offsets": 0}
+    words = "survey " + " ".join(f"{name}={value}" for name, value in asked.items()) + " origins=0 kinds=xfs5"
+    large, there = printed("xfs_sectors", "LARGE_SUPER"), printed("xfs_sectors", "LARGE_INODE") + printed("xfs_sectors", "LARGE_REST")
+    largest, most = printed("xfs_sectors", "LARGEST_SUPER"), printed("xfs_sectors", "LARGEST_INODE")
+    assert [struct.unpack_from(">Q", inode, 152) for inode in (there, most)] == [(328064,), (163904,)]
+
+    def seen(groups, *images):
+        row(words, [with_sectors(64, image) for image in images], out=plan([64] * len(images), groups=groups, **asked))
+    for head, inode, place in ((large, there, 541440), (largest, most, 540928)):
+        seen(f"group xfs5\nmark xfs5 0 5 at:{place}\n", {9: head, 5: inode})
+        # the superblock may be on another image, and behind them
+        seen(f"group xfs5\nmark xfs5 1 60 at:{place}\n", {63: head}, {60: inode})
+        # with another checksum, or what lies past the first sector on another image or cut off, it is no mark
+        for other in (inode[:-1] + bytes([inode[-1] ^ 1]), inode[:100] + bytes([inode[100] ^ 1]) + inode[101:]):
+            seen("group xfs5\n", {9: head, 5: other})
+        for images in (({9: head, 5: inode[:SECTOR], 6: units(1)}, {6: inode[SECTOR:]}), ({6: inode[SECTOR:]}, {9: head, 5: inode[:SECTOR], 6: units(1)})):
+            seen("group xfs5\n", *images)
+        seen("group xfs5\n", {9: head, 61: inode[:3 * SECTOR]})
+    seen("group xfs5\n", {9: largest, 5: there})
+    seen("group xfs5\n", {9: large, 5: most})
+    # of inodes of 1,024 bytes each 64th is a mark
+    second = bytearray(there)
+    struct.pack_into(">Q", second, 152, 328064 + 32)
+    struct.pack_into("<I", second, 100, 0)
+    struct.pack_into("<I", second, 100, crc32c(second))
+    seen("group xfs5\n", {9: large, 5: bytes(second)})
+    seen("group xfs5\nmark xfs5 0 7 at:541440\n", {9: large, 5: bytes(second), 7: there})
 
 
 def leaf_of(front, back):
@@ -694,7 +724,8 @@ def differs(words, images, text, out, status, line, ends):
 
 
 def main():
-    for rows in (earlier, inodes, tree_blocks, inode_pairs, own_bounds, own_offsets, delayed_rows, large_blocks, rescue, near, copies, file_systems, relations):
+    for rows in (earlier, inodes, larger_inodes, tree_blocks, inode_pairs, own_bounds, own_offsets, delayed_rows, large_blocks, rescue, near, copies,
+                 file_systems, relations):
         rows()
     differing = 0
     for words, *rest in ROWS:

@@ -145,7 +145,7 @@ def landmark(rng, sector, length, variety):
              "agf": lambda: head_sector(rng, b"XAGF"), "agi": lambda: head_sector(rng, b"XAGI"),
              "lvm": lambda: label_sector(rng, sector), "btrfs": lambda: btrfs_sector(rng, rng.randrange(variety)),
              "ext": lambda: ext_sector(rng, rng.randrange(variety)), "two": lambda: of_two_kinds(rng, sector, length),
-             "super5": lambda: XfsMaker(rng).superblock(), "xfs5": lambda: XfsMaker(rng).inode(), "tree": lambda: TreeMaker(rng).block(),
+             "super5": lambda: XfsMaker(rng).superblock(), "xfs5": lambda: XfsMaker(rng).inode()[:SECTOR], "tree": lambda: TreeMaker(rng).block(),
              "pair": lambda: PairMaker(rng).pair()}[kind]()
     if rng.random() < 0.04:
         at = rng.randrange(SECTOR)

@@ -2,10 +2,11 @@
 ghost use Rattle.std.specs.Prelude.{◌<◌};
 
 use crate::xfs_sectors::{
-    INODE, LARGE_INODE, LARGE_REST, LARGE_SUPER, SUPER, WIDE_INODE, WIDE_SUPER,
+    INODE, LARGE_INODE, LARGE_REST, LARGE_SUPER, LARGEST_INODE, LARGEST_SUPER, SUPER, WIDE_INODE,
+    WIDE_SUPER,
 };
 use uuid::Uuid;
-use xfs5::{XfsInode, read_inode, read_inodes};
+use xfs5::{XfsInode, read_inode, read_inodes, read_larger, read_start};
 
 // The identifier with which all of them were made.
 fn made() -> Uuid {
@@ -49,6 +50,34 @@ fn no_inodes(rt: HostRuntime) {
     assert!(rt; read_inode(&SUPER, &[]).is_none() && read_inode(&[0; 512], &[]).is_none());
 }
 
+// Four sectors with these two at the front, and bytes of something else behind.
+fn run_of(first: &[u8; 512], second: &[u8; 512]) -> [u8; 2048] {
+    let mut run = [0x77; 2048];
+    run[..512].copy_from_slice(first);
+    run[512..1024].copy_from_slice(second);
+    run
+}
+
+#[test]
+fn bytes_of_larger_inodes(rt: HostRuntime) {
+    assert!(rt; read_larger(&run_of(&LARGE_INODE, &LARGE_REST)) == Some(1024));
+    assert!(rt; read_larger(&run_of(&LARGE_INODE, &turned(LARGE_REST, 511))).is_none());
+    assert!(rt; read_larger(&run_of(&INODE, &LARGE_REST)).is_none());
+    assert!(rt; read_larger(&LARGEST_INODE) == Some(2048));
+    let mut other = LARGEST_INODE;
+    other[2047] ^= 1;
+    assert!(rt; read_larger(&other).is_none());
+}
+
+#[test]
+fn first_sectors_of_inodes(rt: HostRuntime) {
+    assert!(rt; read_start(&INODE) == numbered(655_488));
+    assert!(rt; read_start(&LARGE_INODE) == numbered(328_064));
+    assert!(rt; read_start(&turned(LARGE_INODE, 511)) == numbered(328_064));
+    assert!(rt; read_start(&turned(INODE, 4)).is_none() && read_start(&turned(INODE, 0)).is_none());
+    assert!(rt; read_start(&LARGE_REST).is_none() && read_start(&SUPER).is_none());
+}
+
 #[test]
 fn places_of_xfs_db(rt: HostRuntime) {
     match read_inodes(&SUPER) {
@@ -76,6 +105,13 @@ fn places_in_wide_sectors_and_of_large_inodes(rt: HostRuntime) {
         Some(inodes) => {
             assert!(rt; inodes.inode == 1024 && inodes.inode_sector(328_064) == Some(541_440));
             assert!(rt; inodes.is_mark(328_064) && !inodes.is_mark(328_096));
+        }
+        None => assert!(rt; false, "no superblock"),
+    }
+    match read_inodes(&LARGEST_SUPER) {
+        Some(inodes) => {
+            assert!(rt; inodes.inode == 2048 && inodes.inode_sector(163_904) == Some(540_928));
+            assert!(rt; inodes.is_mark(163_904) && !inodes.is_mark(163_920));
         }
         None => assert!(rt; false, "no superblock"),
     }

@@ -143,9 +143,10 @@ XFS = {
     "inodes of 512 bytes": [],
     "inodes of 1,024 bytes": ["-i", "size=1024"],
     "inodes of 2,048 bytes": ["-i", "size=2048"],
-    "blocks of 1 KiB, inodes of 1,024 bytes": ["-b", "size=1024", "-i", "size=1024"],
+    "blocks of 1 KiB": ["-b", "size=1024"],
+    "blocks of 2 KiB, inodes of 1,024 bytes": ["-b", "size=2048", "-i", "size=1024"],
     "sectors of 4,096 bytes": ["-s", "size=4096"],
-    "sectors of 4,096 bytes, inodes of 2,048": ["-s", "size=4096", "-i", "size=2048"],
+    "sectors of 4,096 bytes, inodes of 2,048 bytes": ["-s", "size=4096", "-i", "size=2048"],
     "an identifier of its own for inodes": None,
 }
 

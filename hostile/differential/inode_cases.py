@@ -127,7 +127,7 @@ def crowded_inodes(rng):
     maker = XfsMaker(rng)
     maker.size = rng.choice([512, 512, 1024])
     maker.bits, maker.groups, maker.block_bits, maker.group_blocks = {512: 3, 1024: 2}[maker.size], 4, 10, 17
-    block, other = (with_checksum(numbered(number, b"inodes\0".ljust(16, b"\3"), maker.size), 100) for number in (128, 127 * 128))
+    block, other = (with_checksum(numbered(number, b"inodes\0".ljust(16, b"\3"), maker.size), 100) for number in (16 << maker.bits, 127 * 128))
     count = rng.choice([2045, 2046, 2047, 2048])
     if rng.random() < 0.3:
         # superblocks of version 4, which tell nothing of inodes, do not count

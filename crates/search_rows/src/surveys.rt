@@ -4,7 +4,7 @@ ghost use Rattle.image_source.specs.Memory.{seen_of};
 ghost use Rattle.survey_engine.specs.Surveys.{IsAsk};
 
 use crate::objects::four_images;
-use crate::xfs_sectors::{LATER, NEXT, ROOT, SUPER};
+use crate::xfs_sectors::{LARGE, LARGE_SUPER, LATER, NEXT, ROOT, SUPER};
 use arrayvec::ArrayVec;
 use image_source::MemImages;
 use landmark_rules::{GroupKind, Kind, Mark, MarkTests, Rule};
@@ -654,5 +654,35 @@ fn other_inodes_are_no_marks(rt: HostRuntime) -> Result<(), Fail> {
             .first()
             .is_some_and(|group| group.kind.is_same(GroupKind::Xfs))
     );
+    Ok(())
+}
+
+const LARGE_SUPER_AT_9: (usize, &[Field]) = (9, &[(0, &LARGE_SUPER)]);
+
+const LARGE_INODE: &[Field] = &[(0, &LARGE)];
+
+// The marks among inodes of XFS beside a superblock of inodes of 1,024 bytes.
+fn has_large_marks<R: Abort + AllocGlobal>(
+    rt: &R,
+    sectors: [(usize, &'static [Field]); 2],
+    lines: &[Line],
+) -> Result<bool, Fail> {
+    let there = [LARGE_SUPER_AT_9, sectors[0], sectors[1]];
+    let plan = plan_of_fields(rt, &there, Kinds::among(&[GroupKind::Xfs5]))?;
+    Ok(plan.groups.as_slice().len() == 1 && is_group(&plan, 0, GroupKind::Xfs5, lines))
+}
+
+// What lies past the first sector is read too, where the image has the four sectors of the largest inode.
+#[test]
+fn larger_inodes_of_xfs_are_marks(rt: HostRuntime) -> Result<(), Fail> {
+    let nothing: &[Field] = &[];
+    let byte: &[Field] = &[(511, &[1])];
+    let mark = (Kind::Xfs5, 0, 20, Rule::At(541_440));
+    let last = (Kind::Xfs5, 0, 396, Rule::At(541_440));
+    assert!(rt; has_large_marks(&rt, [(20, LARGE_INODE), (22, byte)], &[mark])?);
+    assert!(rt; has_large_marks(&rt, [(20, LARGE_INODE), (21, byte)], &[])?);
+    assert!(rt; has_large_marks(&rt, [(396, LARGE_INODE), (8, nothing)], &[last])?);
+    assert!(rt; has_large_marks(&rt, [(397, LARGE_INODE), (8, nothing)], &[])?);
+    assert!(rt; has_large_marks(&rt, [(20, &[(0, &ROOT)]), (22, nothing)], &[])?);
     Ok(())
 }

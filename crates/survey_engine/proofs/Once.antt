@@ -3,7 +3,7 @@ use Rattle.std.proofs.Common.{◌≡◌, ℕ, ◌+◌, ◌≤◌, List, [], ◌�
 use Rattle.std.specs.Prelude.{count_by, ◌/◌, ◌==◌, ◌&&◌}
 use Rattle.std.specs.Str.{bytes_eq}
 use Rattle.std.specs.List.{cons_option, filter_map, flat_map, sum_by}
-use Rattle.std.specs.Option.{is_some, option_map}
+use Rattle.std.specs.Option.{is_some, option_map, option_map_or}
 use Rattle.std.proofs.lemmas.Bool.{and_parts, eqb-true}
 use Rattle.std.proofs.lemmas.List.Sums.{count_by-le-length, sum_by-append, sum_by-cons}
 use Rattle.ntfs_marks.specs.declared.boot.NtfsBoot.{NtfsBoot}
@@ -154,7 +154,8 @@ placed_passed false place takes = takes
 
 marks_inode : (x : XfsInodes) (i : InodeSeen) → is_mark_of x i ≡ true → bytes_eq x.uuid i.inode.uuid ≡ true
 unfolding is_mark_of
-marks_inode x i is = (and_parts (bytes_eq x.uuid i.inode.uuid) _ is).0
+marks_inode x i is =
+    (and_parts (bytes_eq x.uuid i.inode.uuid) _ (and_parts (bytes_eq x.uuid i.inode.uuid && option_map_or (λ bytes. bytes == x.inode) i.bytes false) _ is).0).0
 
 takes_inode : (alone : Bool) (at : Place) (i : InodeSeen) (o : Owner) → is_some (rule_in o alone at (Inode i)) ≡ true → is_same_owner o (Xfs5 (of_uuid i.inode.uuid)) ≡ true
 unfolding rule_in of_uuid

@@ -1,6 +1,6 @@
 -- How many bytes inodes of XFS have.
-use Rattle.std.proofs.Common.{◌≡◌, ℕ, ◌+◌, ◌*◌, ◌<◌, ◌≤◌, List, [], ◌∷◌, ◌++◌, Bool, true, false, cond, length, map, take, drop, get_or, slice_set, slice_index, slice_range, refl, sym, ap, ap₂, subst, ◌∙◌, arith, IfSome, Option, Some, None}
-use Rattle.std.specs.Prelude.{count_by, nat_le, ◌&&◌}
+use Rattle.std.proofs.Common.{◌≡◌, ℕ, ◌+◌, ◌*◌, ◌<◌, ◌≤◌, List, [], ◌++◌, Bool, true, false, cond, length, map, take, drop, get_or, slice_set, slice_index, slice_range, refl, sym, ap, ap₂, subst, ◌∙◌, arith, IfSome, Option, Some, None}
+use Rattle.std.specs.Prelude.{count_by}
 use Rattle.std.proofs.Math.Seq.{map-set_same}
 use Rattle.std.proofs.lemmas.Bool.Decides.{nat_tests}
 use Rattle.std.proofs.lemmas.List.{append-nil, drop-drop, drop-set-lt, drop_all, get_or-drop, take_all}
@@ -50,8 +50,8 @@ landmark_keeps : (run : List ℕ) (landmark : Landmark) → bare_landmark (landm
 landmark_keeps run (Inode i) = refl
 landmark_keeps run landmark = refl
 
-pub run_alike : (run : List ℕ) (s : Sighting) → ◌≡◌ {A = Sighting} (bare (record { image = s.image; sector = s.sector; landmark = landmark_by_run run s.landmark })) (bare s)
-run_alike run s = ap (λ (l : Landmark). record { image = s.image; sector = s.sector; landmark = l }) (landmark_keeps run s.landmark)
+pub run_alike : (run : List ℕ) (s : Sighting) (landmark : Landmark) → landmark ≡ landmark_by_run run s.landmark → ◌≡◌ {A = Sighting} (bare (record { image = s.image; sector = s.sector; landmark = landmark })) (bare s)
+run_alike run s landmark is = ap (λ (l : Landmark). record { image = s.image; sector = s.sector; landmark = l }) (ap bare_landmark is ∙ landmark_keeps run s.landmark)
 
 pub alike_more : (found ys : List Sighting) (i : ℕ) (s new : Sighting) → map bare ys ≡ map bare found → s ≡ get_or ys i s → bare new ≡ bare s → map bare (slice_set ys i new) ≡ map bare found
 alike_more found ys i s new alike is same = map-set_same bare ys i new s (same ∙ ap bare is) ∙ alike
@@ -111,9 +111,9 @@ unfolding sized
 no_run None lengths s fails = tt
 no_run (Some images) lengths s fails = rw fails refl
 
-pub by_run : (bytes : Option (List (List ℕ))) (lengths : List ℕ) (s : Sighting) (run : List ℕ) → has_run lengths s ≡ true → IfSome bytes (λ images. run ≡ run_of images s) →
-    IfSome bytes (λ images. ◌≡◌ {A = Sighting} (record { image = s.image; sector = s.sector; landmark = landmark_by_run run s.landmark }) (sized lengths images s))
+pub by_run : (bytes : Option (List (List ℕ))) (lengths : List ℕ) (s : Sighting) (run : List ℕ) (landmark : Landmark) → has_run lengths s ≡ true → IfSome bytes (λ images. run ≡ run_of images s) → landmark ≡ landmark_by_run run s.landmark →
+    IfSome bytes (λ images. ◌≡◌ {A = Sighting} (record { image = s.image; sector = s.sector; landmark = landmark }) (sized lengths images s))
 unfolding sized
-by_run None lengths s run is read = tt
-by_run (Some images) lengths s run is read =
-    ap (λ (l : List ℕ). record { image = s.image; sector = s.sector; landmark = landmark_by_run l s.landmark }) read ∙ rw is refl
+by_run None lengths s run landmark is read so = tt
+by_run (Some images) lengths s run landmark is read so =
+    ap (λ (l : Landmark). record { image = s.image; sector = s.sector; landmark = l }) (so ∙ ap (λ (l : List ℕ). landmark_by_run l s.landmark) read) ∙ rw is refl

@@ -1,9 +1,10 @@
-use Rattle.std.proofs.Common.{◌≡◌, ◌^◌, ◌<◌, ◌≤◌, refl, rules}
+use Rattle.std.proofs.Common.{◌≡◌, ◌^◌, ◌<◌, ◌≤◌, map, refl, rules}
 use Rattle.std.proofs.lemmas.List.Elements.{All-same}
 use Rattle.survey_engine.specs.Origins.{AreOrigins}
 use Rattle.survey_engine.specs.Owners.{groups_of}
 use Rattle.survey_engine.specs.Sightings.{AreSightings}
 use Rattle.outside.specs.Seen.{lengths_of}
+use Rattle.survey_engine.specs.Telling.{bare}
 use Rattle.survey_engine.proofs.Told.{none_read, none_sized, survey_read, sweep_read}
 use Rattle.survey_engine.proofs.Law.{are_groups}
 use Rattle.survey_engine.proofs.Leaves.{are_alike}
@@ -19,7 +20,9 @@ size_inodes-requires-clause-short g c =
     All-same (λ n. n < 2 ^ 55) c.deref-4.result.now (lengths_of (g.I.Images.seen c.args.images.now).attached) (search rules) (are_short (g.I.Images.seen c.args.images.now).attached c.requires.short)
 
 pub tell-requires-clause-found : goal.tell-requires-clause-found
-tell-requires-clause-found g c = are_alike c.deref-5.result.now c.in_ok-found.found.items c.size_inodes.new.found c.size_inodes.ensures.alike (search rules)
+tell-requires-clause-found g c =
+    let alike : map bare c.size_inodes.new.found ≡ map bare c.in_ok-found.found.items = search rules in
+    are_alike c.deref-5.result.now c.in_ok-found.found.items c.size_inodes.new.found alike (search rules)
 
 pub tell-requires-clause-short : goal.tell-requires-clause-short
 tell-requires-clause-short g c =
@@ -46,8 +49,9 @@ returns-clause-plan g c =
 pub returns-clause-reads : goal.returns-clause-reads
 returns-clause-reads g c =
     let are : AreSightings c.deref.result.now c.in_ok-found.found.items = search rules in
+    let alike : map bare c.size_inodes.new.found ≡ map bare c.in_ok-found.found.items = search rules in
     survey_read (g.I.Images.seen c.args.images.now) (g.I.Images.seen c.gather.new.images) (g.I.Images.seen c.origins.new.images) (g.I.Images.seen c.size_inodes.new.images) (g.I.Images.seen c.tell.new.images) c.args.ask.now c.lengths-lengths.result.items c.in_ok-found.found.items c.size_inodes.new.found
-    (search rules) (search rules) are.few c.size_inodes.ensures.alike (search rules) (search rules) (search rules) (search rules)
+    (search rules) (search rules) are.few alike (search rules) (search rules) (search rules) (search rules)
 
 pub returns-in_err-found-clause-reads : goal.returns-in_err-found-clause-reads
 returns-in_err-found-clause-reads g c = sweep_read (g.I.Images.seen c.args.images.now) (g.I.Images.seen c.gather.new.images) c.args.ask.now (search rules)
@@ -69,11 +73,13 @@ returns-in_err-map_err-clause-reads g c =
 pub returns-in_err-map_err-2-clause-reads : goal.returns-in_err-map_err-2-clause-reads
 returns-in_err-map_err-2-clause-reads g c =
     let are : AreSightings c.deref.result.now c.in_ok-found.found.items = search rules in
+    let alike : map bare c.size_inodes.new.found ≡ map bare c.in_ok-found.found.items = search rules in
     survey_read (g.I.Images.seen c.args.images.now) (g.I.Images.seen c.gather.new.images) (g.I.Images.seen c.origins.new.images) (g.I.Images.seen c.size_inodes.new.images) (g.I.Images.seen c.tell.new.images) c.args.ask.now c.lengths-lengths.result.items c.in_ok-found.found.items c.size_inodes.new.found
-    (search rules) (search rules) are.few c.size_inodes.ensures.alike (search rules) (search rules) (search rules) (search rules)
+    (search rules) (search rules) are.few alike (search rules) (search rules) (search rules) (search rules)
 
 pub returns-in_err-groups-clause-reads : goal.returns-in_err-groups-clause-reads
 returns-in_err-groups-clause-reads g c =
     let are : AreSightings c.deref.result.now c.in_ok-found.found.items = search rules in
+    let alike : map bare c.size_inodes.new.found ≡ map bare c.in_ok-found.found.items = search rules in
     survey_read (g.I.Images.seen c.args.images.now) (g.I.Images.seen c.gather.new.images) (g.I.Images.seen c.origins.new.images) (g.I.Images.seen c.size_inodes.new.images) (g.I.Images.seen c.tell.new.images) c.args.ask.now c.lengths-lengths.result.items c.in_ok-found.found.items c.size_inodes.new.found
-    (search rules) (search rules) are.few c.size_inodes.ensures.alike (search rules) (search rules) (search rules) (search rules)
+    (search rules) (search rules) are.few alike (search rules) (search rules) (search rules) (search rules)

@@ -1,6 +1,5 @@
-use Rattle.std.proofs.Common.{◌≡◌, ◌+◌, ◌<◌, ◌∙◌, IfSome, length, refl, arith, rules}
+use Rattle.std.proofs.Common.{◌≡◌, ◌+◌, ◌<◌, ◌∙◌, length, refl, arith, rules}
 use Rattle.outside.specs.Attached.{told_all}
-use Rattle.survey_engine.specs.Sizing.{sized}
 use Rattle.survey_engine.proofs.Leaves.{alike_long, are_alike, in_images_at}
 use Rattle.survey_engine.proofs.Sizes.{alike_more, later_at, later_more, none_sized, one_sized, sized_all, sized_more, sized_none, some_sized}
 use Rattle.survey_engine.proofs.sizing.size_inodes.Goals as goal
@@ -37,8 +36,8 @@ loop-place-preserved g c =
       stays = let now : (g.I.Images.seen c.sized.new.images).faults ≡ (g.I.Images.seen c.loop-place.images).faults = search rules in now ∙ c.loop-place.invariant.stays;
     }
 
-pub returns-in_err-sized-clause-reads : goal.returns-in_err-sized-clause-reads
-returns-in_err-sized-clause-reads g c =
+pub returns-in_err-found-clause-reads : goal.returns-in_err-found-clause-reads
+returns-in_err-found-clause-reads g c =
     let before = g.I.Images.seen c.args.images.now in
     let s = c.index-found-place.result in
     let long = alike_long c.args.found.now c.loop-place.found c.loop-place.invariant.alike in

@@ -16,8 +16,8 @@ returns-clause-sized g c =
     let attached = (g.I.Images.seen c.args.images.now).attached in
     let are : AreTold attached c.args.sighting.now.image c.args.sighting.now.sector c.read.new.to = search rules in
     let is : has_run c.args.lengths.now c.args.sighting.now ≡ true = sym c.has_run.ensures ∙ c.if-not-has_run.false in
-    by_run (told_all attached) c.args.lengths.now c.args.sighting.now c.read.new.to is
-    (run_told attached c.args.lengths.now c.args.sighting.now c.read.new.to c.requires.lengths c.requires.sighting are (omega arith))
+    by_run (told_all attached) c.args.lengths.now c.args.sighting.now c.read.new.to c.landmark_by_run.result is
+    (run_told attached c.args.lengths.now c.args.sighting.now c.read.new.to c.requires.lengths c.requires.sighting are (omega arith)) c.landmark_by_run.ensures
 
 pub returns-clause-alike : goal.returns-clause-alike
-returns-clause-alike g c = run_alike c.read.new.to c.args.sighting.now
+returns-clause-alike g c = run_alike c.read.new.to c.args.sighting.now c.landmark_by_run.result c.landmark_by_run.ensures

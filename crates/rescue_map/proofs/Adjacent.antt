@@ -1,11 +1,9 @@
 -- Volume sectors that lie beside each other.
 use Rattle.std.proofs.Common.{ℕ, zero, suc, inl, inr, ◌⊎◌, ◌≡◌, ◌+◌, ◌-◌, ◌*◌, ◌/◌, ◌%◌, ◌<◌, ◌≤◌, Bool, true, false, cond, List, [], length, get_or, refl, sym, ap, ◌∙◌, subst, arith, Option, Some, None}
 use Rattle.std.specs.Option.{is_none, is_some}
-use Rattle.std.proofs.lemmas.Bool.{cases_lt}
 use Rattle.std.proofs.Common.{take, drop}
 use Rattle.std.proofs.lemmas.List.{get_or-map, length-drop, length-take}
 use Rattle.std.proofs.lemmas.Nat.{div-add-mod', div-mul-add, mod-mul-add}
-use borrow.Rule.Slice.PartMut.{put_mid}
 use Rattle.outside.specs.Seen.{OnlyReads, Seen}
 use Rattle.member_regions.specs.Members.{held}
 use Rattle.raid_params.specs.Size.{data_blocks}
@@ -14,11 +12,10 @@ use Rattle.raid_params.specs.declared.wide.Wide.{Wide}
 use Rattle.raid_terms.specs.Address.{LiesAt, home_row, home_sector}
 use Rattle.raid_terms.specs.Parity.{member_byte}
 use Rattle.raid_terms.specs.Role.{HasRole, Item}
-use Rattle.row_parity.proofs.Regions.{mid_before, mid_inside}
 use Rattle.rescue_map.specs.Damaged.{damaged, damaged_at, is_unknown, known_slot}
-use Rattle.rescue_map.specs.Salvaged.{column_at, filled_byte, reads_for, reads_for_all, salvaged_sector, AreKnown, IsRead}
+use Rattle.rescue_map.specs.Salvaged.{reads_for, reads_for_all, salvaged_sector, AreKnown}
 use Rattle.rescue_map.proofs.Blocks.{reads_one, reads_parts, reads_some}
-use Rattle.rescue_map.proofs.Found.{copied_found, filled_copied, known_home, known_not_lost}
+use Rattle.rescue_map.proofs.Found.{copied_found, filled_copied, known_home, known_not_lost, some_not_none, unknown_home}
 use Rattle.rescue_map.proofs.Rows.{held_home, known_or}
 use Rattle.rescue_text.specs.declared.section.Section.{Section}
 
@@ -47,7 +44,7 @@ later_lies head slot sector v j lies inside =
       place = omega arith;
     }
 
-slot_at : (sections : List Section) (set : Wide) (t slot : ℕ) → slot < length set.geo.slots.items →
+pub slot_at : (sections : List Section) (set : Wide) (t slot : ℕ) → slot < length set.geo.slots.items →
     get_or (damaged sections set t).slots.items slot None ≡ known_slot sections set t (get_or set.geo.slots.items slot None)
 unfolding damaged
 slot_at sections set t slot below = get_or-map (known_slot sections set t) set.geo.slots.items slot None None below
@@ -71,6 +68,16 @@ some_of (Some i) known = refl
 kept_or : (kept held : Option ℕ) → is_none kept ≡ false → (kept ≡ held) ⊎ (kept ≡ None) → kept ≡ held
 kept_or kept held known (inl is) = is
 kept_or kept held known (inr is) = let gone : is_none kept ≡ true = ap is_none is in absurd (cc)
+
+-- a slot that is not empty at a sector holds there what it holds
+pub slot_kept : (sections : List Section) (set : Wide) (t : ℕ) (held : Option ℕ) → is_some (known_slot sections set t held) ≡ true → known_slot sections set t held ≡ held
+slot_kept sections set t held some = kept_or (known_slot sections set t held) held (some_not_none (known_slot sections set t held) some) (known_or sections set t held)
+
+-- and where it is empty, the sector is not known
+pub slot_unknown : (sections : List Section) (set : Wide) (slot sector v : ℕ) (held : Option ℕ) → LiesAt set.geo.head slot sector v → slot < length set.geo.slots.items → held ≡ get_or set.geo.slots.items slot None →
+    is_some (known_slot sections set sector held) ≡ false → is_unknown sections set v ≡ true
+slot_unknown sections set slot sector v held lies below here none =
+    unknown_home sections set v slot sector (damaged sections set sector) refl lies (ap is_some (slot_at sections set sector slot below ∙ ap (known_slot sections set sector) (sym here)) ∙ none)
 
 -- and where it is known, its slot holds what it holds
 held_later : (sections : List Section) (set : Wide) (slot sector v : ℕ) → LiesAt set.geo.head slot sector v → slot < length set.geo.slots.items → is_unknown sections set v ≡ false →
@@ -119,48 +126,9 @@ reads_run sections set v (suc n) known =
     let last = one_for sections set (v + n) (known n (omega arith)) in
     omega (arith, reads_parts sections set v n 1 (suc n) (v + n) (omega arith) refl, reads_one sections set (v + n))
 
--- more sectors were read, by one call
-pub run_more : (images : List (List ℕ)) (sections : List Section) (set : Wide) (first j n k : ℕ) (rows block to : List ℕ) → length to ≡ 512 * n → 512 * j ≤ length block → AreKnown sections set (first + j) n →
-    ((i : ℕ) → i < j → IsRead images sections set first rows block i) →
-    ((i x : ℕ) → i < n → x < 512 → get_or to (512 * i + x) 0 ≡ get_or (salvaged_sector images sections set (first + j + i)) x 0) →
-    (i : ℕ) → i < j + n → IsRead images sections set first rows (put_mid (512 * j) k block to) i
-run_more images sections set first j n k rows block to long inside known done here = λ i below x small.
-    elim (cases_lt i j) [
-      | inl less ↦
-          ap (λ (b : ℕ). filled_byte sections set (first + i) (column_at (length set.geo.slots.items) rows (512 * length set.geo.slots.items * i) x) b) (mid_before (512 * j) k (512 * i + x) block to (omega arith) inside)
-          ∙ done i less x small
-      | inr more ↦
-          let at : first + j + (i - j) ≡ first + i = omega arith in
-          let now : is_unknown sections set (first + i) ≡ false = subst (λ (t : ℕ). is_unknown sections set t ≡ false) at (known (i - j) (omega arith)) in
-          filled_copied sections set (first + i) (get_or (put_mid (512 * j) k block to) (512 * i + x) 0) (column_at (length set.geo.slots.items) rows (512 * length set.geo.slots.items * i) x) now
-          ∙ mid_inside (512 * j) k (512 * i + x) (512 * (i - j) + x) block to (omega arith) (omega arith) inside
-          ∙ here (i - j) x (omega arith) small
-          ∙ ap (λ (t : ℕ). get_or (salvaged_sector images sections set t) x 0) at
-    ]
-
 pub run_reads : (old new : Seen) (sections : List Section) (set : Wide) (v n m k : ℕ) → k ≡ n → AreKnown sections set v n → n ≤ m → OnlyReads old new k → OnlyReads old new (reads_for_all sections set v m)
 run_reads old new sections set v n m k same known le reads =
     reads_some old new sections set v n m le (subst (λ (t : ℕ). OnlyReads old new t) (same ∙ sym (reads_run sections set v n known)) reads)
 
-pub sector_reads : (old new : Seen) (sections : List Section) (set : Wide) (v m : ℕ) → 1 ≤ m → OnlyReads old new (reads_for sections set v) → OnlyReads old new (reads_for_all sections set v m)
-sector_reads old new sections set v m some reads = reads_some old new sections set v 1 m some (subst (λ (t : ℕ). OnlyReads old new t) (sym (reads_one sections set v)) reads)
-
 pub part_long : (block : List ℕ) (j n : ℕ) → 512 * (j + n) ≤ length block → length (take (512 * (j + n) - 512 * j) (drop (512 * j) block)) ≡ 512 * n
 part_long block j n fits = omega (arith, length-take (512 * (j + n) - 512 * j) (drop (512 * j) block), length-drop (512 * j) block)
-
--- more sectors of a piece were read themselves, and stay
-pub over_more : (sections : List Section) (set : Wide) (first start n m : ℕ) (piece old rows : List ℕ) → AreKnown sections set (first + (start + n)) m →
-    ((j x : ℕ) → j < n → x < 512 → get_or piece (512 * j + x) 0
-    ≡ filled_byte sections set (first + (start + j)) (column_at (length set.geo.slots.items) rows (512 * length set.geo.slots.items * (start + j)) x) (get_or old (512 * j + x) 0)) →
-    ((p : ℕ) → 512 * n ≤ p → get_or piece p 0 ≡ get_or old p 0) →
-    (j x : ℕ) → j < n + m → x < 512 → get_or piece (512 * j + x) 0
-    ≡ filled_byte sections set (first + (start + j)) (column_at (length set.geo.slots.items) rows (512 * length set.geo.slots.items * (start + j)) x) (get_or old (512 * j + x) 0)
-over_more sections set first start n m piece old rows known done rest = λ j x below inside.
-    elim (cases_lt j n) [
-      | inl less ↦ done j x less inside
-      | inr more ↦
-          let at : first + (start + n) + (j - n) ≡ first + (start + j) = omega arith in
-          let here : is_unknown sections set (first + (start + j)) ≡ false = subst (λ (t : ℕ). is_unknown sections set t ≡ false) at (known (j - n) (omega arith)) in
-          rest (512 * j + x) (omega arith)
-          ∙ sym (filled_copied sections set (first + (start + j)) (get_or old (512 * j + x) 0) (column_at (length set.geo.slots.items) rows (512 * length set.geo.slots.items * (start + j)) x) here)
-    ]

@@ -1,12 +1,12 @@
 -- Sectors that are asked for.
-use Rattle.std.proofs.Common.{ℕ, zero, suc, inl, inr, ◌≡◌, ◌+◌, ◌-◌, ◌*◌, ◌%◌, ◌<◌, ◌≤◌, ◌||◌, Bool, true, false, List, length, get_or, refl, sym, ap, ◌∙◌, subst, arith}
+use Rattle.std.proofs.Common.{ℕ, zero, suc, inl, inr, ◌≡◌, ◌+◌, ◌-◌, ◌*◌, ◌%◌, ◌<◌, ◌≤◌, ◌||◌, Bool, true, false, List, length, get_or, refl, ap, ◌∙◌, subst, arith}
 use Rattle.std.specs.List.{list_any, range_with_len}
 use Rattle.std.proofs.lemmas.Bool.{cases_lt}
 use borrow.Rule.Slice.PartMut.{put_mid}
 use Rattle.raid_params.specs.declared.wide.Wide.{Wide}
-use Rattle.raid_terms.specs.Address.{LiesAt, home_sector}
+use Rattle.raid_terms.specs.Address.{LiesAt}
 use Rattle.row_parity.proofs.Regions.{mid_before, mid_inside}
-use Rattle.rescue_map.specs.Damaged.{is_lost, is_unknown, AreAllGood, IsDamaged}
+use Rattle.rescue_map.specs.Damaged.{is_lost, AreAllGood, IsDamaged}
 use Rattle.rescue_map.specs.Salvaged.{salvaged_sector, salvaged_sectors, AreKnown, AreSalvaged}
 use Rattle.rescue_map.proofs.Adjacent.{later_lies}
 use Rattle.rescue_map.proofs.Blocks.{blocks_are}
@@ -75,12 +75,3 @@ pub salvaged_all : (images : List (List ℕ)) (sections : List Section) (set : W
 unfolding salvaged_sectors
 salvaged_all images sections set first n m bytes long same are =
     blocks_are bytes (salvaged_sector images sections set) first n long (salvaged_long images sections set) (λ j x below small. are j x (omega arith) small)
-
--- one sector alone
-pub only_one : (images : List (List ℕ)) (sections : List Section) (set : Wide) (v : ℕ) (to : List ℕ) → ((x : ℕ) → x < 512 → get_or to x 0 ≡ get_or (salvaged_sector images sections set v) x 0) →
-    (i x : ℕ) → i < 1 → x < 512 → get_or to (512 * i + x) 0 ≡ get_or (salvaged_sector images sections set (v + i)) x 0
-only_one images sections set v to here i x below small =
-    let none : i ≡ 0 = omega arith in
-    let at : 512 * i + x ≡ x = omega arith in
-    let place : v ≡ v + i = omega arith in
-    ap (λ (p : ℕ). get_or to p 0) at ∙ here x small ∙ ap (λ (w : ℕ). get_or (salvaged_sector images sections set w) x 0) place

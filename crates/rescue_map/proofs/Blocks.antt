@@ -1,11 +1,9 @@
 -- Blocks of sectors.
-use Rattle.std.proofs.Common.{ℕ, zero, suc, inl, inr, ◌≡◌, ◌+◌, ◌-◌, ◌*◌, ◌/◌, ◌%◌, ◌<◌, ◌≤◌, List, [], ◌∷◌, ◌++◌, length, get_or, map, take, drop, refl, sym, ap, ◌∙◌, subst, arith, Option}
+use Rattle.std.proofs.Common.{ℕ, zero, suc, ◌≡◌, ◌+◌, ◌-◌, ◌*◌, ◌/◌, ◌%◌, ◌<◌, ◌≤◌, List, [], ◌∷◌, ◌++◌, length, get_or, map, take, drop, refl, sym, ap, ◌∙◌, subst, arith, Option}
 use Rattle.std.specs.List.{flat_map, range_with_len, sum}
-use Rattle.std.proofs.lemmas.Bool.{cases_lt}
 use Rattle.std.proofs.lemmas.List.{get_or-drop, get_or-take, length-drop, length-take, map-append, take-append-drop}
 use Rattle.std.proofs.lemmas.List.Sums.{sum_by-append}
 use Rattle.std.proofs.lemmas.Grind.{same_number_lists}
-use borrow.Rule.Slice.PartMut.{put_mid}
 use Rattle.std.proofs.Common.{min, length-append}
 use Rattle.std.specs.Io.KnownBytes.{Appends}
 use Rattle.outside.specs.Streams.{AppendsFront, AppendsSectors}
@@ -13,8 +11,6 @@ use Rattle.virtual_volume.proofs.Fronts.{appends_join, appends_none, front_after
 use Rattle.outside.proofs.Reading.{reads_join, reads_none, reads_up}
 use Rattle.outside.specs.Seen.{OnlyReads, Seen}
 use Rattle.raid_params.specs.declared.wide.Wide.{Wide}
-use Rattle.raid_terms.specs.Parity.{column_of}
-use Rattle.row_parity.proofs.Regions.{map_same, mid_before, mid_inside, region_inside}
 use Rattle.virtual_volume.proofs.Ranges.{flat_more, flat_split, range_split}
 use Rattle.rescue_map.specs.Salvaged.{column_at, filled_byte, reads_for, reads_for_all, salvaged_sector, salvaged_sectors, IsFilled, IsRead}
 use Rattle.rescue_map.proofs.Found.{salvaged_long}
@@ -32,11 +28,6 @@ pub reads_one : (sections : List Section) (set : Wide) (v : ℕ) → reads_for_a
 unfolding reads_for_all
 reads_one sections set v = omega arith
 
-pub reads_on : (old mid new : Seen) (sections : List Section) (set : Wide) (first n : ℕ) → OnlyReads old mid (reads_for_all sections set first n) → OnlyReads mid new (reads_for sections set (first + n)) →
-    OnlyReads old new (reads_for_all sections set first (n + 1))
-reads_on old mid new sections set first n before one =
-    reads_up old new (reads_join old mid new before one) (omega (arith, reads_parts sections set first n 1 (n + 1) (first + n) refl refl, reads_one sections set (first + n)))
-
 pub reads_some : (old new : Seen) (sections : List Section) (set : Wide) (first n m : ℕ) → n ≤ m → OnlyReads old new (reads_for_all sections set first n) → OnlyReads old new (reads_for_all sections set first m)
 reads_some old new sections set first n m le reads =
     reads_up old new reads (omega (arith, reads_parts sections set first n (m - n) m (first + n) (omega arith) refl))
@@ -45,40 +36,6 @@ pub reads_blocks : (old mid new : Seen) (sections : List Section) (set : Wide) (
     OnlyReads old new (reads_for_all sections set first (n + m))
 reads_blocks old mid new sections set first n m before block =
     reads_up old new (reads_join old mid new before block) (omega (arith, reads_parts sections set first n m (n + m) (first + n) refl refl))
-
-column_kept : (n at x : ℕ) (rows others : List ℕ) → ((p : ℕ) → at ≤ p → p < at + 512 * n → get_or others p 0 ≡ get_or rows p 0) → x < 512 → column_at n others at x ≡ column_at n rows at x
-column_kept n at x rows others same inside =
-    map_same (λ i. get_or others (at + (512 * i + x)) 0) (λ i. get_or rows (at + (512 * i + x)) 0) 0 n (λ i low high. same (at + (512 * i + x)) (omega arith) (omega arith))
-
-column_new : (n at x : ℕ) (others row : List ℕ) → ((p i : ℕ) → p ≡ at + i → i < 512 * n → get_or others p 0 ≡ get_or row i 0) → x < 512 → column_at n others at x ≡ column_of n row x
-column_new n at x others row same inside =
-    map_same (λ i. get_or others (at + (512 * i + x)) 0) (λ i. get_or row (512 * i + x) 0) 0 n (λ i low high. same (at + (512 * i + x)) (512 * i + x) refl (omega arith))
-
--- one more sector was read for
-pub read_more : (images : List (List ℕ)) (sections : List Section) (set : Wide) (first n s j k l : ℕ) (rows block row to : List ℕ) → n ≡ length set.geo.slots.items → s ≡ 512 * n → length row ≡ s → length to ≡ 512 →
-    s * j ≤ length rows → 512 * j ≤ length block →
-    ((i : ℕ) → i < j → IsRead images sections set first rows block i) →
-    ((x : ℕ) → x < 512 → filled_byte sections set (first + j) (column_of n row x) (get_or to x 0) ≡ get_or (salvaged_sector images sections set (first + j)) x 0) →
-    (i : ℕ) → i < j + 1 → IsRead images sections set first (put_mid (s * j) k rows row) (put_mid (512 * j) l block to) i
-read_more images sections set first n s j k l rows block row to many stride long short within inside done here = λ i below x small.
-    let all = put_mid (s * j) k rows row in
-    let at : s * j ≡ 512 * length set.geo.slots.items * j = ap (λ (t : ℕ). t * j) (stride ∙ ap (λ (t : ℕ). 512 * t) many) in
-    elim (cases_lt i j) [
-      | inl less ↦
-          let lies = region_inside (512 * length set.geo.slots.items) i j less in
-          ap (λ (c : List ℕ). filled_byte sections set (first + i) c (get_or (put_mid (512 * j) l block to) (512 * i + x) 0))
-          (column_kept (length set.geo.slots.items) (512 * length set.geo.slots.items * i) x rows all (λ p low high. mid_before (s * j) k p rows row (omega arith) within) small)
-          ∙ ap (λ (b : ℕ). filled_byte sections set (first + i) (column_at (length set.geo.slots.items) rows (512 * length set.geo.slots.items * i) x) b) (mid_before (512 * j) l (512 * i + x) block to (omega arith) inside)
-          ∙ done i less x small
-      | inr same ↦
-          let e : j ≡ i = omega arith in
-          subst (λ (t : ℕ). filled_byte sections set (first + t) (column_at (length set.geo.slots.items) all (512 * length set.geo.slots.items * t) x) (get_or (put_mid (512 * j) l block to) (512 * t + x) 0) ≡ get_or (salvaged_sector images sections set (first + t)) x 0) e
-          (ap (λ (c : List ℕ). filled_byte sections set (first + j) c (get_or (put_mid (512 * j) l block to) (512 * j + x) 0))
-          (column_new (length set.geo.slots.items) (512 * length set.geo.slots.items * j) x all row (λ p y is less. mid_inside (s * j) k p y rows row (omega arith) (omega arith) within) small
-          ∙ ap (λ (t : ℕ). column_of t row x) (sym many))
-          ∙ ap (λ (b : ℕ). filled_byte sections set (first + j) (column_of n row x) b) (mid_inside (512 * j) l (512 * j + x) x block to refl (omega arith) inside)
-          ∙ here x small)
-    ]
 
 -- a list is the sectors that it agrees with
 pub blocks_are : (xs : List ℕ) (f : ℕ → List ℕ) (a n : ℕ) → length xs ≡ 512 * n → ((j : ℕ) → length (f j) ≡ 512) →

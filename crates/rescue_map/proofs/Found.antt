@@ -32,7 +32,7 @@ use Rattle.rescue_text.specs.declared.section.Section.{Section}
 
 -- ---- whether it is lost
 
-some_not_none : (held : Option ℕ) → is_some held ≡ true → is_none held ≡ false
+pub some_not_none : (held : Option ℕ) → is_some held ≡ true → is_none held ≡ false
 some_not_none None is = absurd (cc)
 some_not_none (Some i) is = refl
 
@@ -61,6 +61,16 @@ pub unknown_home : (sections : List Section) (set : Wide) (v slot sector : ℕ) 
     is_some (get_or row.slots.items slot None) ≡ false → is_unknown sections set v ≡ true
 unknown_home sections set v slot sector row is lies none =
     ap is_none (sym (held_home sections set v slot sector row is lies)) ∙ not_some_none (get_or row.slots.items slot None) none
+
+none_not_some : (held : Option ℕ) → is_none held ≡ true → is_some held ≡ false
+none_not_some None is = refl
+none_not_some (Some i) is = absurd (cc)
+
+-- the slot of a sector that is not known is empty in its row
+pub unknown_slot : (sections : List Section) (set : Wide) (v slot sector : ℕ) (row : Geometry) → row ≡ damaged sections set sector → LiesAt set.geo.head slot sector v →
+    is_unknown sections set v ≡ true → is_some (get_or row.slots.items slot None) ≡ false
+unknown_slot sections set v slot sector row is lies gone =
+    none_not_some (get_or row.slots.items slot None) (ap is_none (held_home sections set v slot sector row is lies) ∙ gone)
 
 pub beyond_home : (sections : List Section) (set : Wide) (v slot sector : ℕ) (row : Geometry) (b : Bool) → row ≡ damaged sections set sector → LiesAt set.geo.head slot sector v →
     b ≡ nat_lt (redundancy row.head.level) (empties row.slots.items) → b ≡ is_beyond sections set v
@@ -249,34 +259,11 @@ cells_more images slots offset t k slot row to long within hold here = λ i x be
           ∙ ap (λ (s : ℕ). member_byte images offset t x (get_or slots s None)) e)
     ]
 
--- one more sector is what it is to be
-pub sector_more : (F : ℕ → ℕ → ℕ) (k n : ℕ) (all to : List ℕ) → length to ≡ 512 → 512 * n ≤ length all →
-    ((j x : ℕ) → j < n → x < 512 → get_or all (512 * j + x) 0 ≡ F j x) → ((x : ℕ) → x < 512 → get_or to x 0 ≡ F n x) →
-    (j x : ℕ) → j < n + 1 → x < 512 → get_or (put_mid (512 * n) k all to) (512 * j + x) 0 ≡ F j x
-sector_more F k n all to long within done here = λ j x below inside.
-    elim (cases_lt j n) [
-      | inl less ↦ (mid_before (512 * n) k (512 * j + x) all to (omega arith) within ∙ done j x less inside)
-      | inr same ↦ (let e : n ≡ j = omega arith in
-          mid_inside (512 * n) k (512 * j + x) x all to (omega arith) (omega arith) within ∙ here x inside ∙ ap (λ (s : ℕ). F s x) e)
-    ]
-
 -- a byte of a part
 pub part_byte : (a k i : ℕ) (xs : List ℕ) → i < k → get_or (take k (drop a xs)) i 0 ≡ get_or xs (a + i) 0
 part_byte a k i xs below = get_or-take k (drop a xs) i 0 below ∙ get_or-drop a xs i 0
 
 -- ---- what is read
-
-one_read : (held : Option ℕ) (bytes : ℕ) → is_some held ≡ true → bytes ≡ 512 → cond (is_none held) 0 (bytes / 512) ≡ 1
-one_read None bytes some long = absurd (cc)
-one_read (Some i) bytes some long = ap (λ (n : ℕ). n / 512) long
-
-pub reads_copied : (old new : Seen) (sections : List Section) (set : Wide) (v bytes : ℕ) (slot : Option ℕ) → is_some slot ≡ true → bytes ≡ 512 → is_unknown sections set v ≡ false →
-    OnlyReads old new (cond (is_none slot) 0 (bytes / 512)) → OnlyReads old new (reads_for sections set v)
-reads_copied old new sections set v bytes slot some long known reads =
-    let one : reads_for sections set v ≡ 1 =
-    ap (λ (b : Bool). cond b 0 (cond (is_unknown sections set v) (held (damaged_at sections set v).slots.items) 1)) (known_not_lost sections set v known)
-    ∙ ap (λ (b : Bool). cond b (held (damaged_at sections set v).slots.items) 1) known in
-    subst (λ (n : ℕ). OnlyReads old new n) (one_read slot bytes some long ∙ sym one) reads
 
 pub reads_solved : (old new : Seen) (sections : List Section) (set : Wide) (v slot sector n : ℕ) (row : Geometry) → row ≡ damaged sections set sector → LiesAt set.geo.head slot sector v → n ≡ held row.slots.items →
     is_unknown sections set v ≡ true → is_beyond sections set v ≡ false → OnlyReads old new n → OnlyReads old new (reads_for sections set v)

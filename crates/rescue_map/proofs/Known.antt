@@ -82,9 +82,6 @@ good_back (Some section) sector is = λ byte low high. from_true (is_read sectio
 pub good_is : (sections : List Section) (image sector : ℕ) → IsGood sections image sector → is_good sections image sector ≡ true
 good_is sections image sector good = good_in (section_of sections image) sector good
 
-pub is_good_back : (sections : List Section) (image sector : ℕ) → is_good sections image sector ≡ true → IsGood sections image sector
-is_good_back sections image sector is = good_back (section_of sections image) sector is
-
 -- each of good sectors is good
 one_of : (section : Option Section) (first count sector : ℕ) → AreGoodIn section first count → first ≤ sector → sector < first + count → IsGoodIn section sector
 one_of None first count sector are low high = tt

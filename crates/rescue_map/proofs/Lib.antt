@@ -8,5 +8,6 @@ pub mod Blocks
 pub mod Padding
 pub mod LawsShown
 pub mod Adjacent
+pub mod Steps
 pub mod ReadAhead
 pub mod AskedFor

@@ -1,6 +1,6 @@
 -- Sets whose images have bases of their own.
 use Rattle.std.proofs.Common.{ℕ, zero, suc, ◌≡◌, ◌-◌, ◌/◌, ◌<◌, ◌≤◌, ◌^◌, ◌==◌, ◌||◌, ◌&&◌, not, Bool, true, false, List, [], ◌∷◌, length, All, refl, sym, ap, ◌∙◌, subst, arith, Option, Some, None}
-use Rattle.std.specs.Prelude.{nat_eq, if◌then◌else◌}
+use Rattle.std.specs.Prelude.{if◌then◌else◌}
 use Rattle.std.proofs.lemmas.Bool.Decides.{nat_tests}
 use Rattle.std.proofs.lemmas.List.Elements.{All-cons, All-head, All-tail}
 use Rattle.outside.specs.Seen.{Image, OnlyReads, Seen}
@@ -12,18 +12,15 @@ use Rattle.image_padding.proofs.Within.{reads_within}
 use Rattle.image_padding.specs.Padded.{greatest_base, padded, padded_images, padded_to, seen_padded}
 use Rattle.raid_params.proofs.Ruled.{ruled_row, wide_bases, wide_ruled, wide_shape}
 use Rattle.raid_params.specs.Bases.{leaves_out}
-use Rattle.raid_params.specs.Size.{rows}
 use Rattle.raid_params.specs.Validity.{first_fault, is_shaped}
-use Rattle.raid_params.specs.Wide.{bases_fault, has_bases, wide_fault}
+use Rattle.raid_params.specs.Wide.{bases_fault, has_bases}
 use Rattle.raid_params.specs.declared.types.GeoFault.{GeoFault}
-use Rattle.raid_params.specs.declared.types.Geometry.{Geometry}
 use Rattle.raid_params.specs.declared.wide.Wide.{Wide}
 use Rattle.raid_params.specs.declared.wide.WideFault.TheVariants.{Bases}
 use Rattle.rescue_map.specs.Salvaged.{IsSalvaged}
-use Rattle.rescue_map.specs.Damaged.{IsDamaged, IsMendable, IsReadable}
+use Rattle.rescue_map.specs.Damaged.{IsMendable, IsReadable}
 use Rattle.rescue_map.proofs.Known.{all_below}
 use Rattle.virtual_volume.specs.Served.{IsServed}
-use Rattle.rescue_map.proofs.Passed.{damage_of}
 
 pub salvaged_shape : (set : Wide) (end : ℕ) (attached : List Image) → IsSalvaged set end attached → is_shaped set.geo (length attached) ≡ true
 salvaged_shape set end attached s = wide_shape set (length attached) end s.ruled
@@ -112,11 +109,6 @@ same_within reference other bases others old new same =
     let faults : new.faults ≡ old.faults = ap (λ (s : Seen). s.faults) same in
     let sectors : new.sectors_read ≡ old.sectors_read = ap (λ (s : Seen). s.sectors_read) same in
     λ i. record { world = reads.1.world i; attached = reads.1.attached i; faults = faults i; sectors_read = sectors i }
-
--- a set that breaks no rule may be damaged
-pub ruled_damaged : (set : Wide) (end n : ℕ) → wide_fault set n end ≡ None → end < 2 ^ 55 → IsDamaged set end
-ruled_damaged set end n ruled near =
-    damage_of set end (record { images = n; shaped = wide_shape set n end ruled }) near
 
 -- a set that breaks no rule is served, also over padded images
 pub salvaged_served : (set : Wide) (end : ℕ) (attached : List Image) → IsSalvaged set end attached → IsServed set.geo end attached

@@ -1,12 +1,11 @@
 -- Rows in which all is good.
-use Rattle.std.proofs.Common.{ℕ, suc, ◌≡◌, ◌+◌, ◌<◌, ◌≤◌, Bool, true, false, cond, ◌*◌, ◌-◌, ◌&&◌, IsTrue, nat_lt, slice_index_or, List, [], ◌∷◌, map, length, refl, ap, ◌∙◌, arith, Option, Some, None}
+use Rattle.std.proofs.Common.{ℕ, suc, ◌≡◌, ◌+◌, ◌<◌, ◌≤◌, Bool, true, false, cond, ◌*◌, ◌-◌, IsTrue, List, [], ◌∷◌, map, length, refl, ap, ◌∙◌, arith, Option, Some, None}
 use Rattle.raid_params.specs.declared.wide.Wide.{Wide}
 use Rattle.rescue_text.specs.declared.section.Section.{Section}
 use Rattle.std.proofs.Common.{◌⊎◌, inl, inr, get_or, subst, sym, All}
 use Rattle.std.proofs.lemmas.List.{length-map}
 use Rattle.std.proofs.lemmas.List.Elements.{All-nil, All-cons, All-head, All-tail}
 use Rattle.std.specs.List.{AllWithin}
-use Rattle.std.specs.Option.{is_none}
 use Rattle.address_map.proofs.Heads.{whole_below}
 use Rattle.address_map.proofs.Lies.{inside_back, slot_in}
 use Rattle.raid_params.specs.Size.{redundancy, rows, volume_sectors}
@@ -15,7 +14,7 @@ use Rattle.raid_params.specs.Validity.{is_valid_head}
 use Rattle.raid_params.specs.declared.types.Head.{Head}
 use Rattle.raid_params.specs.declared.types.Geometry.{Geometry}
 use Rattle.raid_terms.specs.Address.{LiesAt, home_sector, home_slot}
-use Rattle.rescue_map.specs.Damaged.{damaged, image_sector, is_good, is_lost, known_slot}
+use Rattle.rescue_map.specs.Damaged.{damaged, image_sector, is_good, known_slot}
 use Rattle.rescue_text.specs.Good.{AreGood}
 use Rattle.rescue_map.proofs.Known.{good_one}
 
@@ -50,19 +49,6 @@ home_in sections set slot sector v row valid members lies is =
     let many = row_slots sections set sector row is in
     let inside = slot_in set.geo.head slot sector v valid lies in
     omega arith
-
--- whether a sector is lost, by its row
-pub lost_by : (sections : List Section) (set : Wide) (v slot sector few : ℕ) (row : Geometry) (gone : Bool) → row ≡ damaged sections set sector → LiesAt set.geo.head slot sector v →
-    gone ≡ is_none (slice_index_or row.slots.items slot None) → few ≡ empties row.slots.items →
-    (gone && nat_lt (redundancy set.geo.head.level) few) ≡ is_lost sections set v
-unfolding is_lost
-lost_by sections set v slot sector few row gone is lies none count =
-    let most = redundancy set.geo.head.level in
-    ap (λ (b : Bool). b && nat_lt most few) none
-    ∙ ap (λ (n : ℕ). is_none (slice_index_or row.slots.items slot None) && nat_lt most n) count
-    ∙ ap (λ (g : Geometry). is_none (slice_index_or g.slots.items slot None) && nat_lt most (empties g.slots.items)) is
-    ∙ ap (λ (t : ℕ). is_none (slice_index_or (damaged sections set t).slots.items slot None) && nat_lt most (empties (damaged sections set t).slots.items)) lies.place
-    ∙ ap (λ (s : ℕ). is_none (slice_index_or (damaged sections set (home_sector set.geo.head v)).slots.items s None) && nat_lt most (empties (damaged sections set (home_sector set.geo.head v)).slots.items)) lies.item.1
 
 -- slots that are each as they were
 pub all_known : (f : Option ℕ → Option ℕ) (slots : List (Option ℕ)) → AllWithin (λ held. f held ≡ held) slots 0 (length slots) → map f slots ≡ slots

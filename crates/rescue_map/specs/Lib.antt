@@ -1,4 +1,5 @@
 pub mod Damaged
 pub mod Salvaged
+pub mod Ways
 pub mod LostText
 pub mod Laws

@@ -100,12 +100,6 @@ pub record HasRoom (set : Wide) (end first n : ℕ) (block rows : List ℕ) : Ty
   pub sectors : 512 * n ≤ length block
   pub room : 512 * length set.geo.slots.items * n ≤ length rows
 
--- a sector of the volume, with room for it and for its row, a sector a member
-pub record HasSector (set : Wide) (end sector : ℕ) (row to : List ℕ) : Type 0 where
-  pub within : sector < volume_sectors set.geo.head end
-  pub members : length row ≡ 512 * length set.geo.slots.items
-  pub one : length to ≡ 512
-
 -- a row of sectors holds member sector t of the first n slots, and zeros where a slot is empty
 abbrev pub HoldCells : List (List ℕ) → List (Option ℕ) → ℕ → ℕ → ℕ → List ℕ → Type 0
 HoldCells images slots offset t n row =
@@ -121,11 +115,6 @@ pub record IsSalvaged (set : Wide) (end : ℕ) (attached : List Image) : Type 0 
 -- the homes of n volume sectors from a sector on are known
 abbrev pub AreKnown : List Section → Wide → ℕ → ℕ → Type 0
 AreKnown sections set first n = (i : ℕ) → i < n → is_unknown sections set (first + i) ≡ false
-
--- n volume sectors from a sector on lie beside each other on one member, and their homes are known
-pub record IsKnownRun (sections : List Section) (set : Wide) (first n : ℕ) : Type 0 where
-  pub chunk : first % set.geo.head.chunk + n ≤ set.geo.head.chunk
-  pub known : AreKnown sections set first n
 
 -- a call read so many sectors at the most and changed nothing else of the images but their count of faults: it rose where the call failed,
 -- and else stayed

@@ -1,11 +1,9 @@
 //! Which cells of a row are known.
-ghost use Rattle.std.specs.Prelude.{nat_lt, ℕ, ◌≡◌, ◌+◌, ◌<◌, ◌≤◌, ◌^◌, ◌%◌, true};
-ghost use Rattle.raid_params.specs.Size.{redundancy, volume_sectors as volume_sectors_of};
+ghost use Rattle.std.specs.Prelude.{nat_lt, ℕ, ◌≡◌, ◌+◌, ◌<◌, ◌≤◌, ◌^◌, true};
+ghost use Rattle.raid_params.specs.Size.{redundancy};
 ghost use Rattle.raid_params.specs.Slots.{empties};
-ghost use Rattle.rescue_map.specs.Salvaged.{IsKnownRun};
-ghost use Rattle.rescue_map.specs.Damaged.{damaged as damaged_of, image_sector as image_sector_of, is_lost as is_lost_of, known_slot as known_slot_of, AreAllGood, IsDamaged, IsMendable};
+ghost use Rattle.rescue_map.specs.Damaged.{damaged as damaged_of, image_sector as image_sector_of, known_slot as known_slot_of, AreAllGood};
 
-use address_map::locate;
 use raid_params::{Geometry, Slots, Wide, count_empty};
 use rescue_text::Rescue;
 
@@ -32,7 +30,7 @@ fn image_sector(set: &Wide, image: u8, sector: u64) -> u64
 }
 
 /// What a slot holds where member sector `sector` of it is known.
-fn known_slot(set: &Wide, rescue: &Rescue, sector: u64, held: Option<u8>) -> Option<u8>
+pub(crate) fn known_slot(set: &Wide, rescue: &Rescue, sector: u64, held: Option<u8>) -> Option<u8>
     requires near { set.now.geo.head.offset + sector < 2 ^ 55 }
     ensures { result ≡ known_slot_of rescue.now set.now sector held }
 {
@@ -82,20 +80,6 @@ fn are_known(set: &Wide, rescue: &Rescue, first: u64, count: u64, held: Option<u
     }
 }
 
-/// Whether a volume sector is lost: neither its home is known, nor enough of its row.
-pub(crate) fn is_lost(set: &Wide, end: u64, rescue: &Rescue, sector: u64) -> bool
-    requires set { IsDamaged set.now end }
-    requires within { sector < volume_sectors_of set.now.geo.head end }
-    ensures { result ≡ is_lost_of rescue.now set.now sector }
-{
-    let head = &set.geo.head;
-    let Some(home) = locate(head, end, sector) else {
-        return false;
-    };
-    let row = damaged(set, rescue, home.sector);
-    row.slots[home.slot as usize].is_none() && is_beyond(&row)
-}
-
 /// Whether more slots are empty than the level survives.
 pub(crate) fn is_beyond(geo: &Geometry) -> bool
     ensures { result ≡ nat_lt (redundancy geo.now.head.level) (empties geo.now.slots.items) }
@@ -103,19 +87,24 @@ pub(crate) fn is_beyond(geo: &Geometry) -> bool
     count_empty(&geo.slots) > geo.head.level.redundancy() as usize
 }
 
-/// How many member sectors of a slot from number `first` on are known before the first one that is not, `most` at most. It is
-/// found by bisection.
-fn known_front(set: &Wide, rescue: &Rescue, first: u64, most: u64, held: Option<u8>) -> u64
+/// How many member sectors of a slot from number `first` on, which is known, are known before the first one that is not, `most`
+/// at most. It is found by bisection.
+pub(crate) fn known_front(
+    set: &Wide,
+    rescue: &Rescue,
+    first: u64,
+    most: u64,
+    held: Option<u8>,
+) -> u64
     requires some { 1 ≤ most }
     requires near { set.now.geo.head.offset + (first + most) < 2 ^ 55 }
+    requires first { known_slot_of rescue.now set.now first held ≡ held }
+    ensures some { 1 ≤ result }
     ensures most { result ≤ most }
     ensures known { (t : ℕ) → first ≤ t → t < first + result → known_slot_of rescue.now set.now t held ≡ held }
 {
     if are_known(set, rescue, first, most, held) {
         return most;
-    }
-    if !are_known(set, rescue, first, 1, held) {
-        return 0;
     }
     let mut known = 1;
     let mut beyond = most;
@@ -128,25 +117,4 @@ fn known_front(set: &Wide, rescue: &Rescue, first: u64, most: u64, held: Option<
         }
     }
     known
-}
-
-/// How many volume sectors from number `sector` on, `most` at most, lie beside each other on one member and are known, before
-/// the first one that is not.
-pub(crate) fn known_run(damage: &Damage, sector: u64, most: u64) -> u64
-    requires set { IsMendable damage.now.set.now damage.now.end }
-    requires some { 1 ≤ most }
-    requires within { sector + most ≤ volume_sectors_of damage.now.set.now.geo.head damage.now.end }
-    ensures most { result ≤ most }
-    ensures run { IsKnownRun damage.now.rescue.now damage.now.set.now sector result }
-{
-    let head = &damage.set.geo.head;
-    let Some(home) = locate(head, damage.end, sector) else {
-        return 0;
-    };
-    let held = damage.set.geo.slots[home.slot as usize];
-    if held.is_some() {
-        let run = most.min(head.chunk - sector % head.chunk);
-        return known_front(damage.set, damage.rescue, home.sector, run, held);
-    }
-    0
 }

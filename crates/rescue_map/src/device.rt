@@ -1,22 +1,23 @@
 //! Sectors of the volume where they are asked for.
-ghost use Rattle.std.specs.Prelude.{◌≡◌, ◌+◌, ◌-◌, ◌*◌, ◌%◌, ◌/◌, ◌<◌, ◌≤◌, ℕ, IfOk, IfSome, OnOk, false, length, slice_index};
+ghost use Rattle.std.specs.Prelude.{◌≡◌, ◌+◌, ◌*◌, ◌%◌, ◌/◌, ◌<◌, ◌≤◌, ℕ, IfSome, OnOk, false, true, length};
 ghost use Rattle.std.specs.List.{list_any, range_with_len};
 ghost use Rattle.outside.specs.Attached.{told_all};
-ghost use Rattle.outside.specs.Seen.{OnlyReads};
 ghost use Rattle.raid_params.specs.Size.{volume_sectors as volume_sectors_of};
-ghost use Rattle.rescue_map.specs.Damaged.{IsMendable, IsReadable, is_lost as is_lost_of};
-ghost use Rattle.rescue_map.specs.Salvaged.{AreSalvaged, HasSector, ReadsUpTo, reads_for, reads_for_all, salvaged_sector, salvaged_sectors};
+ghost use Rattle.rescue_map.specs.Damaged.{is_lost as is_lost_of, IsDamaged, IsMendable, IsReadable};
+ghost use Rattle.rescue_map.specs.Salvaged.{reads_for_all, salvaged_sectors, AreSalvaged, KeepLengths, ReadsUpTo};
+ghost use Rattle.rescue_map.specs.Ways.{sectors_of, IsPart, IsWay};
 
-use crate::damaged::{Damage, are_all_good, is_lost, known_run};
-use crate::filling::fill_sector;
-use crate::reading::{read_run, read_sector};
+use crate::damaged::{Damage, are_all_good};
+use crate::filling::fill_step;
+use crate::reading::read_step;
+use crate::ways::{Step, Way, way_of};
 use address_map::locate;
 use outside::{Failed, Images, SECTOR};
 
 /// How many volume sectors from number `sector` on, `most` at most, lie beside each other in one chunk, where all members are good beside
 /// them; 0 where they are not.
 fn good_run(damage: &Damage, sector: u64, most: u64) -> u64
-    requires set { IsMendable damage.now.set.now damage.now.end }
+    requires set { IsDamaged damage.now.set.now damage.now.end }
     requires some { 1 ≤ most }
     requires within { sector + most ≤ volume_sectors_of damage.now.set.now.geo.head damage.now.end }
     ensures most { result ≤ most }
@@ -33,19 +34,24 @@ fn good_run(damage: &Damage, sector: u64, most: u64) -> u64
     0
 }
 
-/// How many volume sectors from number `sector` on, `most` at most, are seen together not to be lost. It may be 0 where the first is not.
-fn kept_run(damage: &Damage, sector: u64, most: u64) -> u64
-    requires set { IsMendable damage.now.set.now damage.now.end }
+/// How many volume sectors from number `sector` on, `most` at most, are seen together not to be lost; 0 where the first is lost.
+pub(crate) fn kept_run(damage: &Damage, sector: u64, most: u64) -> u64
+    requires set { IsDamaged damage.now.set.now damage.now.end }
     requires some { 1 ≤ most }
     requires within { sector + most ≤ volume_sectors_of damage.now.set.now.geo.head damage.now.end }
     ensures most { result ≤ most }
     ensures none { (v : ℕ) → sector ≤ v → v < sector + result → is_lost_of damage.now.rescue.now damage.now.set.now v ≡ false }
+    ensures lost { result ≡ 0 → is_lost_of damage.now.rescue.now damage.now.set.now sector ≡ true }
 {
     let good = good_run(damage, sector, most);
     if good > 0 {
         return good;
     }
-    known_run(damage, sector, most)
+    match way_of(damage, sector, most) {
+        Way::Known(_, count) => count,
+        Way::Found(_, _) => 1,
+        Way::Lost => 0,
+    }
 }
 
 /// Whether one of `count` volume sectors from number `first` on is lost. No image is read.
@@ -57,68 +63,33 @@ pub fn has_lost(damage: &Damage, first: u64, count: u64) -> bool
     let mut at = 0;
     while at < count {
         let kept = kept_run(damage, first + at, count - at);
-        if kept == 0 && is_lost(damage.set, damage.end, damage.rescue, first + at) {
+        if kept == 0 {
             return true;
         }
-        at += kept.max(1);
+        at += kept;
     }
     false
 }
 
-/// Reads a sector of the volume into `to`, itself or by the known cells of its row. `row` is room for a sector of each member.
-fn read_one<I: Images>(
+/// Reads sectors of the volume that come about in one way into `to`. `row` is room for a sector of each member.
+fn read_finished<I: Images>(
     images: &mut I,
-    damage: &Damage,
-    sector: u64,
+    step: &Step,
     row: &mut [u8],
     to: &mut [u8],
 ) -> Result<(), Failed>
-    requires set { IsReadable damage.now.set.now damage.now.end (I.seen images.old).attached }
-    requires sector { HasSector damage.now.set.now damage.now.end sector row.old to.old }
-    ensures told { OnOk result (IfSome (told_all (I.seen images.old).attached) (λ bytes. (x : ℕ) → x < 512 →
-        slice_index to.new x ≡ slice_index (salvaged_sector bytes damage.now.rescue.now damage.now.set.now sector) x)) }
-    ensures long { length to.new ≡ 512 }
-    ensures row { length row.new ≡ length row.old }
-    ensures reads { ReadsUpTo (I.seen images.old) (I.seen images.new) (reads_for damage.now.rescue.now damage.now.set.now sector) result }
+    requires set { IsReadable step.now.damage.set.now step.now.damage.end (I.seen images.old).attached }
+    requires way { IsWay step.now.damage.rescue.now step.now.damage.set.now step.now.first step.now.way }
+    requires part { IsPart step.now.damage.set.now step.now.damage.end step.now.first (sectors_of step.now.way) row.old to.old }
+    requires some { 0 < sectors_of step.now.way }
+    ensures told { OnOk result (IfSome (told_all (I.seen images.old).attached)
+        (λ bytes. AreSalvaged bytes step.now.damage.rescue.now step.now.damage.set.now step.now.first (sectors_of step.now.way) to.new)) }
+    ensures lengths { KeepLengths to.old to.new row.old row.new }
+    ensures reads { ReadsUpTo (I.seen images.old) (I.seen images.new) (reads_for_all step.now.damage.rescue.now step.now.damage.set.now step.now.first (sectors_of step.now.way)) result }
 {
-    read_sector(images, damage, sector, row, to)?;
-    fill_sector(damage, sector, row, to);
+    read_step(images, step, row, to)?;
+    fill_step(step, row, to);
     Ok(())
-}
-
-/// Reads the next of `count` sectors of the volume from number `first` on, from sector `j` of these on: as many as lie beside each other
-/// and are known, and else one. Gives where to go on.
-fn read_on<I: Images>(
-    images: &mut I,
-    damage: &Damage,
-    first: u64,
-    j: usize,
-    count: usize,
-    row: &mut [u8],
-    to: &mut [u8],
-) -> Result<usize, Failed>
-    requires set { IsReadable damage.now.set.now damage.now.end (I.seen images.old).attached }
-    requires more { j < count }
-    requires within { first + count ≤ volume_sectors_of damage.now.set.now.geo.head damage.now.end }
-    requires row { length row.old ≡ 512 * length damage.now.set.now.geo.slots.items }
-    requires room { 512 * count ≤ length to.old }
-    ensures next { IfOk result (λ k. (j < k) × (k ≤ count)) }
-    ensures told { IfOk result (λ k. IfSome (told_all (I.seen images.old).attached) (λ bytes.
-        AreSalvaged bytes damage.now.rescue.now damage.now.set.now first j to.old → AreSalvaged bytes damage.now.rescue.now damage.now.set.now first k to.new)) }
-    ensures long { length to.new ≡ length to.old }
-    ensures row { length row.new ≡ length row.old }
-    ensures reads { IfOk result (λ k. OnlyReads (I.seen images.old) (I.seen images.new) (reads_for_all damage.now.rescue.now damage.now.set.now (first + j) (k - j))) }
-    ensures reads_most { ReadsUpTo (I.seen images.old) (I.seen images.new) (reads_for_all damage.now.rescue.now damage.now.set.now (first + j) (count - j)) result }
-{
-    let run = known_run(damage, first + j as u64, (count - j) as u64) as usize;
-    if run > 0 {
-        let part = &mut to[SECTOR * j..SECTOR * (j + run)];
-        read_run(images, damage, first + j as u64, part)?;
-        return Ok(j + run);
-    }
-    let part = &mut to[SECTOR * j..SECTOR * j + SECTOR];
-    read_one(images, damage, first + j as u64, row, part)?;
-    Ok(j + 1)
 }
 
 /// Reads sectors of the volume from number `first` on, as [`salvage`](crate::salvage) writes them: those that lie beside each other and are
@@ -143,7 +114,16 @@ pub fn read_salvaged<I: Images>(
     let count = to.len() / SECTOR;
     let mut j = 0;
     while j < count {
-        j = read_on(images, damage, first, j, count, row, to)?;
+        let sector = first + j as u64;
+        let way = way_of(damage, sector, (count - j) as u64);
+        let next = j + way.count() as usize;
+        let step = Step {
+            damage: *damage,
+            first: sector,
+            way,
+        };
+        read_finished(images, &step, row, &mut to[SECTOR * j..SECTOR * next])?;
+        j = next;
     }
     Ok(())
 }

@@ -1,12 +1,11 @@
 //! Sectors of the volume, by what was read for them.
-ghost use Rattle.std.specs.Prelude.{ℕ, ◌≡◌, ◌+◌, ◌*◌, ◌<◌, ◌≤◌, ◌/◌, length, slice_index};
-ghost use Rattle.raid_params.specs.Size.{volume_sectors as volume_sectors_of};
-ghost use Rattle.raid_terms.specs.Parity.{column_of};
+ghost use Rattle.std.specs.Prelude.{◌≡◌, ◌/◌, length};
 ghost use Rattle.rescue_map.specs.Damaged.{IsMendable};
-ghost use Rattle.rescue_map.specs.Salvaged.{filled_byte, FillsPiece, HasSector, IsPiece};
+ghost use Rattle.rescue_map.specs.Salvaged.{FillsPiece, IsPiece};
+ghost use Rattle.rescue_map.specs.Ways.{sectors_of, AreFinished, IsPart, IsWay};
 
-use crate::damaged::{Damage, damaged, is_beyond, known_run};
-use address_map::locate;
+use crate::damaged::Damage;
+use crate::ways::{Step, Way, way_of};
 use gates::{Gate, OpenGate};
 use outside::SECTOR;
 use pq_parity::solve;
@@ -29,28 +28,22 @@ pub(crate) struct Threading<'a, R, G> {
     pub gate: &'a G,
 }
 
-/// Finishes a sector of the volume, `to`: it stays where it was read itself, is found by `row`, a sector of each member, where
-/// its home is not known, and is zeros where it is lost.
-pub(crate) fn fill_sector(damage: &Damage, sector: u64, row: &[u8], to: &mut [u8])
-    requires set { IsMendable damage.now.set.now damage.now.end }
-    requires sector { HasSector damage.now.set.now damage.now.end sector row.now to.old }
-    ensures long { length to.new ≡ 512 }
-    ensures filled { (x : ℕ) → x < 512 → slice_index to.new x ≡ filled_byte damage.now.rescue.now damage.now.set.now sector
-        (column_of (length damage.now.set.now.geo.slots.items) row.now x) (slice_index to.old x) }
+/// Finishes sectors of the volume, `to`: they stay where they were read themselves, one is found by `row`, a sector of each
+/// member, where its home is not known, and is zeros where it is lost.
+pub(crate) fn fill_step(step: &Step, row: &[u8], to: &mut [u8])
+    requires set { IsMendable step.now.damage.set.now step.now.damage.end }
+    requires way { IsWay step.now.damage.rescue.now step.now.damage.set.now step.now.first step.now.way }
+    requires part { IsPart step.now.damage.set.now step.now.damage.end step.now.first (sectors_of step.now.way) row.now to.old }
+    ensures long { length to.new ≡ length to.old }
+    ensures finished { AreFinished step.now.damage.rescue.now step.now.damage.set.now step.now.first (sectors_of step.now.way) row.now to.old to.new }
 {
-    let Some(home) = locate(&damage.set.geo.head, damage.end, sector) else {
-        return;
-    };
-    let geo = damaged(damage.set, damage.rescue, home.sector);
-    let slot = home.slot as usize;
-    if geo.slots[slot].is_some() {
-        return;
+    match &step.way {
+        Way::Known(_, _) => {}
+        Way::Found(home, cells) => {
+            solve(&row_cells(cells, home.row), row, home.slot as usize, to);
+        }
+        Way::Lost => to.fill(0),
     }
-    if is_beyond(&geo) {
-        to.fill(0);
-        return;
-    }
-    solve(&row_cells(&geo, home.row), row, slot, to);
 }
 
 /// Finishes the sectors of a piece, the first of which is number `start` of those from `first` on. `rows` has a row of
@@ -65,16 +58,17 @@ pub(crate) fn fill_piece(damage: &Damage, first: u64, start: usize, piece: &mut 
     let mut j = 0;
     while j < count {
         let sector = first + (start + j) as u64;
-        let known = known_run(damage, sector, (count - j) as u64) as usize;
-        if known == 0 {
-            let at = stride * (start + j);
-            let row = &rows[at..at + stride];
-            let to = &mut piece[SECTOR * j..SECTOR * j + SECTOR];
-            fill_sector(damage, sector, row, to);
-            j += 1;
-        } else {
-            j += known;
-        }
+        let way = way_of(damage, sector, (count - j) as u64);
+        let next = j + way.count() as usize;
+        let step = Step {
+            damage: *damage,
+            first: sector,
+            way,
+        };
+        let at = stride * (start + j);
+        let to = &mut piece[SECTOR * j..SECTOR * next];
+        fill_step(&step, &rows[at..at + stride], to);
+        j = next;
     }
 }
 
@@ -105,27 +99,13 @@ fn fill_pieces<R: Threads + Sync, G: Gate + Sync>(
     );
 }
 
-/// Whether so many of `count` sectors of the volume from number `first` on are to be found that threads are worth their cost.
-fn are_many(damage: &Damage, first: u64, count: usize) -> bool
-    requires set { IsMendable damage.now.set.now damage.now.end }
-    requires within { first + count ≤ volume_sectors_of damage.now.set.now.geo.head damage.now.end }
-{
-    let mut unknown = 0;
-    let mut at = 0;
-    while at < count {
-        let run = known_run(damage, first + at as u64, (count - at) as u64) as usize;
-        unknown += usize::from(run == 0);
-        at += run.max(1);
-    }
-    MANY <= unknown.saturating_mul(damage.set.geo.slots.len())
-}
-
-/// Finishes the sectors of the block that begins at volume sector `first`, in pieces that may run side by side where many of
-/// them are to be found. The first block is always finished in pieces, which pass the gate.
+/// Finishes the sectors of the block that begins at volume sector `first`, in pieces that may run side by side where so many of
+/// them, `found`, are to be found by their rows that threads are worth their cost. The first block is always finished in pieces, which pass the gate.
 pub(crate) fn fill_block<R: Threads + Sync, G: Gate + Sync>(
     threads: &Threading<R, G>,
     damage: &Damage,
     first: u64,
+    found: usize,
     block: &mut [u8],
     rows: &[u8],
 )
@@ -135,7 +115,7 @@ pub(crate) fn fill_block<R: Threads + Sync, G: Gate + Sync>(
 {
     if first == 0 {
         fill_pieces(threads.rt, threads.gate, damage, first, block, rows);
-    } else if are_many(damage, first, block.len() / SECTOR) {
+    } else if MANY <= found.saturating_mul(damage.set.geo.slots.len()) {
         fill_pieces(threads.rt, &OpenGate, damage, first, block, rows);
     } else {
         fill_piece(damage, first, 0, block, rows);

@@ -6,7 +6,10 @@
 //! which sectors of it are lost all the same. [`read_salvaged`] reads sectors of it where they are asked for, and [`has_lost`] says whether
 //! one of these is lost. [`laws`] says that the volume depends on good sectors alone.
 //!
-//! Which cells are known stands in `specs/Damaged`, the volume in `specs/Salvaged`, the text in `specs/LostText`.
+//! How a sector comes about is decided by `ways.rt` alone, for all of these.
+//!
+//! Which cells are known stands in `specs/Damaged`, the volume in `specs/Salvaged`, how its sectors come about in `specs/Ways`, the text in
+//! `specs/LostText`.
 #![tactic(auto)]
 
 mod damaged;
@@ -15,6 +18,7 @@ mod filling;
 pub mod laws;
 mod lost;
 mod reading;
+mod ways;
 mod writing;
 
 pub use damaged::{Damage, are_all_good};

@@ -5,7 +5,8 @@ ghost use Rattle.rescue_map.specs.Damaged.{IsDamaged};
 ghost use Rattle.rescue_map.specs.LostText.{lines_before, lost_text as lost_text_of, HasLost, HasRuns};
 ghost use Rattle.value_text.specs.Spelling.{line};
 
-use crate::damaged::{Damage, are_all_good, is_lost};
+use crate::damaged::{Damage, are_all_good};
+use crate::device::kept_run;
 use address_map::{data_blocks, rows, volume_sectors};
 use outside::Memory;
 use raid_params::Wide;
@@ -92,7 +93,7 @@ impl Runs {
     }
 }
 
-/// Adds the volume sectors from one up to another, one by one.
+/// Adds the volume sectors from one up to another.
 fn add_sectors(damage: &Damage, from: u64, to: u64, runs: &mut Runs) -> Result<(), Memory>
     requires set { IsDamaged damage.now.set.now damage.now.end }
     requires range { from ≤ to }
@@ -100,12 +101,15 @@ fn add_sectors(damage: &Damage, from: u64, to: u64, runs: &mut Runs) -> Result<(
     requires runs { HasLost damage.now.rescue.now damage.now.set.now damage.now.end from runs.old }
     ensures { OnOk result (HasLost damage.now.rescue.now damage.now.set.now damage.now.end to runs.new) }
 {
-    for sector in from..to {
-        if is_lost(damage.set, damage.end, damage.rescue, sector) {
-            runs.lose(sector);
+    let mut at = from;
+    while at < to {
+        let kept = kept_run(damage, at, to - at);
+        if kept == 0 {
+            runs.lose(at);
         } else {
-            runs.pass(sector, 1)?;
+            runs.pass(at, kept)?;
         }
+        at += kept.max(1);
     }
     Ok(())
 }

@@ -1,16 +1,15 @@
 //! What is read of the images for sectors of the volume.
-ghost use Rattle.std.specs.Prelude.{if◌then◌else◌, ℕ, ◌-◌, ◌%◌, IfOk, ◌≡◌, ◌+◌, ◌*◌, ◌^◌, ◌<◌, ◌≤◌, ◌/◌, length, slice_index, All, IfSome, OnOk, None};
+ghost use Rattle.std.specs.Prelude.{if◌then◌else◌, ℕ, ◌≡◌, ◌+◌, ◌*◌, ◌^◌, ◌<◌, length, slice_index, All, IfSome, OnOk};
 ghost use Rattle.outside.specs.Attached.{told_all};
-ghost use Rattle.outside.specs.Seen.{OnlyReads};
 ghost use Rattle.std.specs.Option.{is_none};
 ghost use Rattle.member_regions.specs.Members.{held as held_of, Reaches};
-ghost use Rattle.raid_params.specs.Size.{volume_sectors as volume_sectors_of};
-ghost use Rattle.raid_terms.specs.Parity.{column_of, member_byte};
+ghost use Rattle.raid_terms.specs.Parity.{member_byte};
 ghost use Rattle.rescue_map.specs.Damaged.{IsReadable};
-ghost use Rattle.rescue_map.specs.Salvaged.{filled_byte, reads_for, reads_for_all, salvaged_sector, HasRoom, HasSector, HoldCells, IsKnownRun, IsRead, KeepLengths, ReadsUpTo};
+ghost use Rattle.rescue_map.specs.Salvaged.{reads_for_all, HasRoom, HoldCells, IsRead, KeepLengths, ReadsUpTo};
+ghost use Rattle.rescue_map.specs.Ways.{sectors_of, AreFound, IsPart, IsWay};
 
-use crate::damaged::{Damage, damaged, is_beyond, known_run};
-use address_map::locate;
+use crate::damaged::Damage;
+use crate::ways::{Step, Way, way_of};
 use member_regions::read_member;
 use outside::{Failed, Images, SECTOR};
 use raid_params::Geometry;
@@ -60,101 +59,36 @@ fn read_row<I: Images>(
     Ok(())
 }
 
-/// Reads what is needed for a sector of the volume: itself into `to` where its home is known, the known cells of its row into
-/// `row` where it is found by these, and nothing where it is lost.
-pub(crate) fn read_sector<I: Images>(
+/// Reads what is needed for sectors of the volume: themselves into `to` where they are known, the known cells of the row into `row`
+/// where one is found by these, and nothing where it is lost.
+pub(crate) fn read_step<I: Images>(
     images: &mut I,
-    damage: &Damage,
-    sector: u64,
+    step: &Step,
     row: &mut [u8],
     to: &mut [u8],
 ) -> Result<(), Failed>
-    requires set { IsReadable damage.now.set.now damage.now.end (I.seen images.old).attached }
-    requires sector { HasSector damage.now.set.now damage.now.end sector row.old to.old }
-    ensures told { OnOk result (IfSome (told_all (I.seen images.old).attached) (λ bytes. (x : ℕ) → x < 512 →
-        filled_byte damage.now.rescue.now damage.now.set.now sector (column_of (length damage.now.set.now.geo.slots.items) row.new x) (slice_index to.new x)
-        ≡ slice_index (salvaged_sector bytes damage.now.rescue.now damage.now.set.now sector) x)) }
+    requires set { IsReadable step.now.damage.set.now step.now.damage.end (I.seen images.old).attached }
+    requires way { IsWay step.now.damage.rescue.now step.now.damage.set.now step.now.first step.now.way }
+    requires part { IsPart step.now.damage.set.now step.now.damage.end step.now.first (sectors_of step.now.way) row.old to.old }
+    requires some { 0 < sectors_of step.now.way }
+    ensures told { OnOk result (IfSome (told_all (I.seen images.old).attached)
+        (λ bytes. AreFound bytes step.now.damage.rescue.now step.now.damage.set.now step.now.first (sectors_of step.now.way) row.new to.new)) }
     ensures lengths { KeepLengths to.old to.new row.old row.new }
-    ensures reads { ReadsUpTo (I.seen images.old) (I.seen images.new) (reads_for damage.now.rescue.now damage.now.set.now sector) result }
+    ensures reads { ReadsUpTo (I.seen images.old) (I.seen images.new) (reads_for_all step.now.damage.rescue.now step.now.damage.set.now step.now.first (sectors_of step.now.way)) result }
 {
-    let Some(home) = locate(&damage.set.geo.head, damage.end, sector) else {
-        return Ok(());
-    };
-    let geo = damaged(damage.set, damage.rescue, home.sector);
-    let held = geo.slots[home.slot as usize];
-    if held.is_some() {
-        return read_member(images, held, geo.head.offset, home.sector, to);
-    }
-    if is_beyond(&geo) {
-        return Ok(());
-    }
-    read_row(images, &geo, home.sector, row)
-}
-
-/// Reads sectors of the volume from number `sector` on, which are known and lie in one chunk, by one call.
-pub(crate) fn read_run<I: Images>(
-    images: &mut I,
-    damage: &Damage,
-    sector: u64,
-    to: &mut [u8],
-) -> Result<(), Failed>
-    requires set { IsReadable damage.now.set.now damage.now.end (I.seen images.old).attached }
-    requires whole { length to.old % 512 ≡ 0 }
-    requires some { 0 < length to.old }
-    requires within { sector + length to.old / 512 ≤ volume_sectors_of damage.now.set.now.geo.head damage.now.end }
-    requires run { IsKnownRun damage.now.rescue.now damage.now.set.now sector (length to.old / 512) }
-    ensures told { OnOk result (IfSome (told_all (I.seen images.old).attached) (λ bytes. (i x : ℕ) → i < length to.old / 512 → x < 512 →
-        slice_index to.new (512 * i + x) ≡ slice_index (salvaged_sector bytes damage.now.rescue.now damage.now.set.now (sector + i)) x)) }
-    ensures long { length to.new ≡ length to.old }
-    ensures reads { ReadsUpTo (I.seen images.old) (I.seen images.new) (length to.old / 512) result }
-{
-    let head = &damage.set.geo.head;
-    match locate(head, damage.end, sector) {
-        Some(home) => {
-            let held = damage.set.geo.slots[home.slot as usize];
-            read_member(images, held, head.offset, home.sector, to)
+    let geo = &step.damage.set.geo;
+    match &step.way {
+        Way::Known(home, _) => {
+            let held = geo.slots[home.slot as usize];
+            read_member(images, held, geo.head.offset, home.sector, to)
         }
-        None => Ok(()),
+        Way::Found(home, cells) => read_row(images, cells, home.sector, row),
+        Way::Lost => Ok(()),
     }
-}
-
-/// Reads what is needed for the next of `count` sectors of the volume from number `first` on, from sector `j` of these on: as
-/// many as lie beside each other, and else one. Gives where to go on.
-fn read_next<I: Images>(
-    images: &mut I,
-    damage: &Damage,
-    first: u64,
-    j: usize,
-    count: usize,
-    block: &mut [u8],
-    rows: &mut [u8],
-) -> Result<usize, Failed>
-    requires set { IsReadable damage.now.set.now damage.now.end (I.seen images.old).attached }
-    requires more { j < count }
-    requires room { HasRoom damage.now.set.now damage.now.end first count block.old rows.old }
-    ensures next { IfOk result (λ k. (j < k) × (k ≤ count)) }
-    ensures told { IfOk result (λ k. IfSome (told_all (I.seen images.old).attached) (λ bytes.
-        ((i : ℕ) → i < j → IsRead bytes damage.now.rescue.now damage.now.set.now first rows.old block.old i) →
-        (i : ℕ) → i < k → IsRead bytes damage.now.rescue.now damage.now.set.now first rows.new block.new i)) }
-    ensures lengths { KeepLengths block.old block.new rows.old rows.new }
-    ensures reads { IfOk result (λ k. OnlyReads (I.seen images.old) (I.seen images.new) (reads_for_all damage.now.rescue.now damage.now.set.now (first + j) (k - j))) }
-    ensures reads_most { ReadsUpTo (I.seen images.old) (I.seen images.new) (reads_for_all damage.now.rescue.now damage.now.set.now (first + j) (count - j)) result }
-{
-    let run = known_run(damage, first + j as u64, (count - j) as u64) as usize;
-    if run > 0 {
-        let to = &mut block[SECTOR * j..SECTOR * (j + run)];
-        read_run(images, damage, first + j as u64, to)?;
-        return Ok(j + run);
-    }
-    let stride = SECTOR * damage.set.geo.slots.len();
-    let row = &mut rows[stride * j..stride * j + stride];
-    let to = &mut block[SECTOR * j..SECTOR * j + SECTOR];
-    read_sector(images, damage, first + j as u64, row, to)?;
-    Ok(j + 1)
 }
 
 /// Reads what is needed for `count` sectors of the volume from number `first` on: sectors into `block`, rows of sectors, one
-/// a member, into `rows`.
+/// a member, into `rows`. Gives how many are to be found by their rows.
 pub(crate) fn read_block<I: Images>(
     images: &mut I,
     damage: &Damage,
@@ -162,7 +96,7 @@ pub(crate) fn read_block<I: Images>(
     count: usize,
     block: &mut [u8],
     rows: &mut [u8],
-) -> Result<(), Failed>
+) -> Result<usize, Failed>
     requires set { IsReadable damage.now.set.now damage.now.end (I.seen images.old).attached }
     requires room { HasRoom damage.now.set.now damage.now.end first count block.old rows.old }
     ensures told { OnOk result (IfSome (told_all (I.seen images.old).attached)
@@ -170,9 +104,23 @@ pub(crate) fn read_block<I: Images>(
     ensures lengths { KeepLengths block.old block.new rows.old rows.new }
     ensures reads { ReadsUpTo (I.seen images.old) (I.seen images.new) (reads_for_all damage.now.rescue.now damage.now.set.now first count) result }
 {
+    let stride = SECTOR * damage.set.geo.slots.len();
+    let mut found = 0;
     let mut j = 0;
     while j < count {
-        j = read_next(images, damage, first, j, count, block, rows)?;
+        let sector = first + j as u64;
+        let way = way_of(damage, sector, (count - j) as u64);
+        let next = j + way.count() as usize;
+        found += way.unsolved();
+        let step = Step {
+            damage: *damage,
+            first: sector,
+            way,
+        };
+        let row = &mut rows[stride * j..stride * j + stride];
+        let to = &mut block[SECTOR * j..SECTOR * next];
+        read_step(images, &step, row, to)?;
+        j = next;
     }
-    Ok(())
+    Ok(found)
 }

@@ -41,8 +41,8 @@ fn make_block<R: Threads + Sync, I: Images, G: Gate + Sync>(
     ensures lengths { KeepLengths block.old block.new rows.old rows.new }
     ensures reads { ReadsUpTo (I.seen images.old) (I.seen images.new) (reads_for_all damage.now.rescue.now damage.now.set.now first (length block.old / 512)) result }
 {
-    read_block(images, damage, first, block.len() / SECTOR, block, rows)?;
-    fill_block(threads, damage, first, block, rows);
+    let found = read_block(images, damage, first, block.len() / SECTOR, block, rows)?;
+    fill_block(threads, damage, first, found, block, rows);
     Ok(())
 }
 

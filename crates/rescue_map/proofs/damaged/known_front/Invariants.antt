@@ -4,6 +4,7 @@ use Rattle.rescue_map.proofs.damaged.known_front.Given as goal
 
 abbrev pub invariant-loop-known : goal.invariant-loop-known
 invariant-loop-known l = record {
+  some : 1 ≤ l.known;
   less : l.known ≤ l.beyond;
   within : l.beyond ≤ l.most;
   front : (t : ℕ) → l.first ≤ t → t < l.first + l.known → known_slot l.rescue l.set t l.held ≡ l.held;

@@ -41,4 +41,4 @@ returns-clause-told g c =
     (λ bytes. c.fill_block.new.block ≡ salvaged_sectors bytes damage.rescue.now damage.set.now c.args.first n)
     (λ bytes read. salvaged_are bytes damage.rescue.now damage.set.now c.args.first n c.read_block.new.rows c.read_block.new.block c.fill_block.new.block (omega arith) read
     (λ j less. c.fill_block.ensures.filled j (omega arith)))
-    c.in_ok-read_block.ensures.told
+    c.in_ok-found.ensures.told

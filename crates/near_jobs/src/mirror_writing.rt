@@ -4,7 +4,6 @@ ghost use Rattle.outside.specs.Attached.{told_all};
 ghost use Rattle.outside.specs.Streams.{Stream};
 ghost use Rattle.run_ends.specs.Agreement.{end_of as end_of_images};
 ghost use Rattle.run_ends.specs.Jobs.{Does, around, named, stream};
-ghost use Rattle.set_jobs.specs.Faults.{stop_of_volume};
 ghost use Rattle.member_regions.specs.declared.regions.TheConstants.{BLOCK};
 ghost use Rattle.virtual_volume.specs.Gained.{IsAhead};
 ghost use Rattle.near_volume.specs.Mirrored.{IsMirrored};
@@ -14,8 +13,8 @@ use near_mirror::NearSet;
 use near_volume::write_near;
 use outside::{Images, MOST_ATTACHED, Sink};
 use run_ends::{Refusal, Stop, end_of, limits_fault};
+use set_jobs::stop_of;
 use std::alloc::Global;
-use virtual_volume::VolumeFault;
 
 /// Writes the volume of a mirror as it is read. `names` is the number of images; `end` is the image sector after the last one of the
 /// members, or None for the shortest image's.
@@ -44,17 +43,6 @@ pub fn mirrorwrite<I: Images, K: Sink>(
             Err(fault) => Err(stop_of(fault)),
         },
         Err(refusal) => Err(Stop::Refused(refusal)),
-    }
-}
-
-/// Why writing ends at a fault.
-fn stop_of(fault: VolumeFault) -> Stop
-    ensures { result ≡ stop_of_volume fault }
-{
-    match fault {
-        VolumeFault::ReadFault => Stop::ImageFault,
-        VolumeFault::WriteFault => Stop::OutFault,
-        VolumeFault::Memory => Stop::OutOfMemory,
     }
 }
 

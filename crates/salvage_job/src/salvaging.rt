@@ -13,19 +13,17 @@ ghost use Rattle.run_ends.specs.Counts.{Raises};
 ghost use Rattle.run_ends.specs.Jobs.{Does, EndsEarly, around, named, stream};
 ghost use Rattle.run_ends.specs.Source.{TakesFew};
 ghost use Rattle.salvage_job.specs.Salvaging.{IsReady, IsUnreadable, IsUnready, IsUnrescued, images_refusal, rule_refusal, salvage_job};
-ghost use Rattle.set_jobs.specs.Faults.{stop_of_volume};
-ghost use Rattle.set_jobs.specs.Mapping.{long_refused};
 ghost use Rattle.set_jobs.specs.Writing.{told_for};
 
 use gates::Gate;
 use outside::{Images, MOST_ATTACHED, Sink, Source};
 use raid_params::{MOST, Wide, WideFault};
 use rescue_map::{Rescue, RescueFault, lost_text, read_rescue};
-use run_ends::{Disagreement, Refusal, Stop, end_of, limits_fault, long_fault, print, text_left};
+use run_ends::{Refusal, Stop, end_of, limits_fault, print, text_left};
+use set_jobs::{long_for, stop_of};
 use std::alloc::Global;
 use std::thread::Threads;
 use value_text::Text;
-use virtual_volume::VolumeFault;
 
 /// The most bytes of a rescue text.
 const RESCUE_BYTES: usize = 4_194_304;
@@ -104,17 +102,6 @@ fn lost_answer(alloc: Global, set: &Wide, ready: &Ready) -> Result<Text, Stop>
     }
 }
 
-/// Why writing ends at a fault.
-fn stop_of(fault: VolumeFault) -> Stop
-    ensures { result ≡ stop_of_volume fault }
-{
-    match fault {
-        VolumeFault::ReadFault => Stop::ImageFault,
-        VolumeFault::WriteFault => Stop::OutFault,
-        VolumeFault::Memory => Stop::OutOfMemory,
-    }
-}
-
 /// What the work begins with: the images are looked at, the rescue text is read, and the set is tested.
 pub fn prepare<S: Source, I: Images>(
     alloc: Global,
@@ -177,19 +164,6 @@ fn images_end<I: Images>(
         return Err(Refusal::Images(fault));
     }
     Ok(end_of(images, names, end))
-}
-
-/// The first of `count` images that is too long for the bases of the set.
-fn long_for<I: Images>(images: &I, count: usize, set: &Wide) -> Option<Disagreement>
-    requires attached { length (I.seen images.now).attached ≡ count }
-    requires few { count ≤ MOST }
-    ensures { result ≡ long_refused set.now (I.seen images.now).attached }
-{
-    if set.bases.is_empty() {
-        None
-    } else {
-        long_fault(images, count)
-    }
 }
 
 /// What was read of so many images, by the text that a source has left: 4,194,304 bytes of it at most. The text is let go.

@@ -143,7 +143,7 @@ pub fn allowed_end<I: Images>(
 }
 
 /// The first of `count` images that is too long for the bases of the set.
-fn long_for<I: Images>(images: &I, count: usize, set: &Wide) -> Option<Disagreement>
+pub fn long_for<I: Images>(images: &I, count: usize, set: &Wide) -> Option<Disagreement>
     requires attached { length (I.seen images.now).attached ≡ count }
     requires few { count ≤ MOST }
     ensures { result ≡ long_refused set.now (I.seen images.now).attached }

@@ -132,7 +132,7 @@ fn rebuild_based<I: Images, K: Sink>(
 }
 
 /// Why writing ends at a fault.
-fn stop_of(fault: VolumeFault) -> Stop
+pub fn stop_of(fault: VolumeFault) -> Stop
     ensures { result ≡ stop_of_volume fault }
 {
     match fault {

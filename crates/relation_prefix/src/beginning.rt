@@ -1,5 +1,5 @@
 //! Whether the slots of a set may begin so, by some rows.
-ghost use Rattle.std.specs.Prelude.{ℕ, ◌≡◌, ◌/◌, ◌<◌, ◌≤◌, All, IfSome, IsTrue, List, Some, false, length, true};
+ghost use Rattle.std.specs.Prelude.{ℕ, ◌≡◌, ◌/◌, ◌<◌, ◌≤◌, ◌||◌, All, IfSome, IsTrue, List, None, Some, false, length, true};
 ghost use Rattle.std.specs.List.{list_any, range_with_len};
 ghost use Rattle.std.specs.declared.option.Option.{Option as OptionOf};
 ghost use Rattle.raid_params.specs.Slots.{empties};
@@ -157,37 +157,47 @@ fn is_untested(test: &PrefixTest, slots: &[Option<u8>], empty: usize) -> bool
     test.head.level.redundancy() as usize <= open.min(test.missing as usize)
 }
 
-/// What is known of the rows that refuse a prefix, where a lost slot may still come and there are two images to tell it.
-fn known_refusals(
-    rows: &[SampledRow],
-    weights: &[RowWeights],
-    test: &PrefixTest,
-    slots: &[Option<u8>],
-    empty: usize,
-) -> Option<Refusals>
-    requires can { CanTest test.now.head rows.now weights.now }
-    requires slots { All (λ sampled. AreThere sampled.ties.images slots.now) rows.now }
-    requires short { length slots.now ≤ test.now.head.members }
-    ensures { IfSome result (AreRefusals rows.now test.now slots.now) }
+/// Whether all places of a lost slot are asked at once: one may still come, and there are two images to tell it.
+fn asks_at_once(test: &PrefixTest, slots: &[Option<u8>], empty: usize) -> bool
+    ensures { result ≡ true → level_is_raid6 test.now.head.level ≡ true }
 {
     let open = slots.len() < test.head.members as usize && test.missing >= 1;
-    if is_raid6(test.head.level) && open && empty == 0 && slots.len() >= 2 {
-        return Some(Refusals::of(rows, weights, test, slots));
-    }
-    None
+    is_raid6(test.head.level) && open && empty == 0 && slots.len() >= 2
 }
 
 /// Whether so much is known that more rows refuse a prefix than may be unsound, with this slot alone lost, or none.
-fn is_refused(refusals: &Option<Refusals>, test: &PrefixTest, lost: Option<u8>) -> bool
+fn is_refused(refusals: Option<&Refusals>, test: &PrefixTest, lost: Option<u8>) -> bool
     requires few { test.now.head.members ≤ 24 }
     requires lost { IfSome lost (λ slot. slot < test.now.head.members) }
-    ensures { result ≡ true → (rows : List Row) (slots : List (OptionOf ℕ)) → IfSome refusals.now (AreRefusals rows test.now slots) →
+    ensures { result ≡ true → (rows : List Row) (slots : List (OptionOf ℕ)) → IfSome refusals.entry (λ known. AreRefusals rows test.now slots known.now) →
         few_rows_refuse rows test.now slots lost ≡ false }
 {
     match refusals {
         Some(refusals) => refusals.are_many(test, lost),
         None => false,
     }
+}
+
+/// Whether no more of the rows refuse a prefix than may be unsound: they are not asked where so much is known already.
+fn few_refuse_beside(
+    rows: &[SampledRow],
+    weights: &[RowWeights],
+    test: &PrefixTest,
+    slots: &[Option<u8>],
+    refusals: Option<&Refusals>,
+    lost: Option<u8>,
+) -> bool
+    requires can { CanTest test.now.head rows.now weights.now }
+    requires slots { All (λ sampled. AreThere sampled.ties.images slots.now) rows.now }
+    requires short { length slots.now ≤ test.now.head.members }
+    requires refusals { IfSome refusals (λ known. AreRefusals rows.now test.now slots.now known.now) }
+    requires lost { IfSome lost (λ slot. slot < test.now.head.members) }
+    ensures { result ≡ few_rows_refuse rows.now test.now slots.now lost }
+{
+    if is_refused(refusals, test, lost) {
+        return false;
+    }
+    few_refuse(rows, weights, test, slots, lost)
 }
 
 /// Whether the slots of a set may begin so of which this slot alone is lost, or none.
@@ -197,20 +207,19 @@ fn may_begin_with(
     test: &PrefixTest,
     slots: &[Option<u8>],
     empty: usize,
-    refusals: &Option<Refusals>,
+    refusals: Option<&Refusals>,
     lost: Option<u8>,
 ) -> bool
     requires can { CanTest test.now.head rows.now weights.now }
     requires slots { All (λ sampled. AreThere sampled.ties.images slots.now) rows.now }
     requires short { length slots.now ≤ test.now.head.members }
     requires empty { empty ≡ empties slots.now }
-    requires refusals { IfSome refusals.now (AreRefusals rows.now test.now slots.now) }
+    requires refusals { IfSome refusals (λ known. AreRefusals rows.now test.now slots.now known.now) }
     requires lost { IfSome lost (λ slot. slot < test.now.head.members) }
     ensures { result ≡ set_may_begin_with rows.now test.now slots.now lost }
 {
     may_lose(test, slots, empty, lost)
-        && !is_refused(refusals, test, lost)
-        && few_refuse(rows, weights, test, slots, lost)
+        && few_refuse_beside(rows, weights, test, slots, refusals, lost)
 }
 
 /// Whether they may with some slot that alone is lost.
@@ -220,13 +229,13 @@ fn may_begin_with_one(
     test: &PrefixTest,
     slots: &[Option<u8>],
     empty: usize,
-    refusals: &Option<Refusals>,
+    refusals: Option<&Refusals>,
 ) -> bool
     requires can { CanTest test.now.head rows.now weights.now }
     requires slots { All (λ sampled. AreThere sampled.ties.images slots.now) rows.now }
     requires short { length slots.now ≤ test.now.head.members }
     requires empty { empty ≡ empties slots.now }
-    requires refusals { IfSome refusals.now (AreRefusals rows.now test.now slots.now) }
+    requires refusals { IfSome refusals (λ known. AreRefusals rows.now test.now slots.now known.now) }
     ensures { result ≡ list_any (λ slot. set_may_begin_with rows.now test.now slots.now (Some slot)) (range_with_len 0 test.now.head.members) }
 {
     if !may_lose_one(test, slots, empty) {
@@ -238,6 +247,47 @@ fn may_begin_with_one(
         }
     }
     false
+}
+
+/// Whether they may with none lost, or with some slot that alone is.
+fn may_begin_with_any(
+    rows: &[SampledRow],
+    weights: &[RowWeights],
+    test: &PrefixTest,
+    slots: &[Option<u8>],
+    empty: usize,
+    refusals: Option<&Refusals>,
+) -> bool
+    requires can { CanTest test.now.head rows.now weights.now }
+    requires slots { All (λ sampled. AreThere sampled.ties.images slots.now) rows.now }
+    requires short { length slots.now ≤ test.now.head.members }
+    requires empty { empty ≡ empties slots.now }
+    requires refusals { IfSome refusals (λ known. AreRefusals rows.now test.now slots.now known.now) }
+    ensures { result ≡ (set_may_begin_with rows.now test.now slots.now None
+        || list_any (λ slot. set_may_begin_with rows.now test.now slots.now (Some slot)) (range_with_len 0 test.now.head.members)) }
+{
+    may_begin_with(rows, weights, test, slots, empty, refusals, None)
+        || may_begin_with_one(rows, weights, test, slots, empty, refusals)
+}
+
+/// Whether they may, where all places of a lost slot are asked at once.
+fn may_begin_at_once(
+    rows: &[SampledRow],
+    weights: &[RowWeights],
+    test: &PrefixTest,
+    slots: &[Option<u8>],
+    empty: usize,
+) -> bool
+    requires can { CanTest test.now.head rows.now weights.now }
+    requires slots { All (λ sampled. AreThere sampled.ties.images slots.now) rows.now }
+    requires short { length slots.now ≤ test.now.head.members }
+    requires empty { empty ≡ empties slots.now }
+    requires level { level_is_raid6 test.now.head.level ≡ true }
+    ensures { result ≡ (set_may_begin_with rows.now test.now slots.now None
+        || list_any (λ slot. set_may_begin_with rows.now test.now slots.now (Some slot)) (range_with_len 0 test.now.head.members)) }
+{
+    let refusals = Refusals::of(rows, weights, test, slots);
+    may_begin_with_any(rows, weights, test, slots, empty, Some(&refusals))
 }
 
 /// Whether the slots of a set may begin so, by some rows and the weights of the head's slots in each.
@@ -256,7 +306,8 @@ pub(crate) fn may_begin(
     if is_untested(test, slots, empty) {
         return true;
     }
-    let refusals = known_refusals(rows, weights, test, slots, empty);
-    may_begin_with(rows, weights, test, slots, empty, &refusals, None)
-        || may_begin_with_one(rows, weights, test, slots, empty, &refusals)
+    if asks_at_once(test, slots, empty) {
+        return may_begin_at_once(rows, weights, test, slots, empty);
+    }
+    may_begin_with_any(rows, weights, test, slots, empty, None)
 }

@@ -6,7 +6,8 @@
 //!
 //! [`RowTies`] has what the table of a row says in few numbers: a relation of the row is told by a weight for each of its ties.
 //! What is asked of an image is then one linear condition on these, and [`System`] takes one after the other and says which
-//! contradicts those before it.
+//! contradicts those before it. Where a lost slot may still come, a row is asked of all its places at once: `joint` has what both equations
+//! ask of the ties together, `lost_weights` what that leaves to the lost slot, and `refusals` counts the rows that refuse each place.
 //!
 //! [`SampledRows`] keeps the ties of some rows, and [`HeadRelations`] asks them of the slot lists of a head: a prefix may begin a set where no
 //! more of the tested rows refuse it than may be unsound, with no slot lost or with some one that may still be. What it says stands in

@@ -80,9 +80,12 @@ class Logical(unittest.TestCase):
         two = LVM.replace("pv0 {\n", 'pv0 {\nid = "abcdef-0123"\n').replace("logical_volumes", "LOGICAL", 1)
         two = two.replace("}\n}\nLOGICAL", '}\npv1 {\nid = "uvwxyz-4567"\npe_start = 32\n}\n}\nlogical_volumes', 1)
         moved = two.replace('"pv0", 10', '"pv1", 10')
+        third = 'segment3 {\nstart_extent = 4\nextent_count = 1\ntype = "striped"\nstripe_count = 1\nstripes = [ "pv0", 20 ]\n}\nsegment2 {'
+        between = moved.replace("segment2 {", third, 1)
         base, length = 1000 + 16 * SECTOR, 8 * SECTOR
         for text, own, wanted in ((two, "abcdef0123", [(base, base + 80 * SECTOR, False)]), (two, None, [(base, base + 80 * SECTOR, False)]),
-                                  (moved, "abcdef0123", [(base, ALL, True)]), (moved, "uvwxyz4567", []), (two, "uvwxyz4567", [])):
+                                  (moved, "abcdef0123", [(base, ALL, True)]), (between, "abcdef0123", []), (moved, "uvwxyz4567", []),
+                                  (two, "uvwxyz4567", [])):
             found = lvm.logical_volumes(text, 1000, own)
             self.assertEqual([(*(piece.first for piece in it.pieces), it.spread) for it in found], wanted)
         self.assertEqual([it.length for it in lvm.logical_volumes(moved, 1000, "abcdef0123")[0].pieces], [length, 3 * length])
@@ -505,6 +508,11 @@ class Looks(InFolder):
         self.assertEqual([finding.text() for finding in verdict.findings], ["LVM2_member: pvck clean", "logical volume home: xfs: xfs_repair clean"])
         self.assertIsNone(verdict.findings[0].clean)
         self.assertEqual(place, 96)
+        # The physical volume that is there is the second one of its group.
+        second = one.replace("pv0 {", f'pv0 {{\nid = "{"a" * 32}"\npe_start = 99\n}}\npv1 {{\nid = "{"u" * 32}"').replace('"pv0", 9', '"pv1", 9')
+        found = self.checkers(("pvck", put(second)), ("xfs_repair", put("")))
+        verdict = found.look(self.volume((0, head + bytes(24) + b"u" * 32), (16 + 72, self.xfs(64 * 8 * SECTOR))), [], 4096, 8192)
+        self.assertEqual(verdict.findings[1].text(), "logical volume home: xfs: xfs_repair clean")
 
     def test_volume_that_ends_too_soon(self) -> None:
         seen: list[int] = []

@@ -92,6 +92,43 @@ fn read_finished<I: Images>(
     Ok(())
 }
 
+/// Reads sectors of the volume from number `first` on. Gives how many were found by their rows. `row` is room for a sector of each
+/// member.
+pub(crate) fn read_each<I: Images>(
+    images: &mut I,
+    damage: &Damage,
+    first: u64,
+    row: &mut [u8],
+    to: &mut [u8],
+) -> Result<usize, Failed>
+    requires set { IsReadable damage.now.set.now damage.now.end (I.seen images.old).attached }
+    requires whole { length to.old % 512 ≡ 0 }
+    requires within { first + length to.old / 512 ≤ volume_sectors_of damage.now.set.now.geo.head damage.now.end }
+    requires row { length row.old ≡ 512 * length damage.now.set.now.geo.slots.items }
+    ensures told { OnOk result (IfSome (told_all (I.seen images.old).attached)
+        (λ bytes. to.new ≡ salvaged_sectors bytes damage.now.rescue.now damage.now.set.now first (length to.old / 512))) }
+    ensures row { length row.new ≡ length row.old }
+    ensures reads { ReadsUpTo (I.seen images.old) (I.seen images.new) (reads_for_all damage.now.rescue.now damage.now.set.now first (length to.old / 512)) result }
+{
+    let count = to.len() / SECTOR;
+    let mut found = 0;
+    let mut j = 0;
+    while j < count {
+        let sector = first + j as u64;
+        let way = way_of(damage, sector, (count - j) as u64);
+        let next = j + way.count() as usize;
+        found += way.unsolved();
+        let step = Step {
+            damage: *damage,
+            first: sector,
+            way,
+        };
+        read_finished(images, &step, row, &mut to[SECTOR * j..SECTOR * next])?;
+        j = next;
+    }
+    Ok(found)
+}
+
 /// Reads sectors of the volume from number `first` on, as [`salvage`](crate::salvage) writes them: those that lie beside each other and are
 /// known by one call, others one by one, by the known cells of their rows; zeros where they are lost. `row` is room for a sector of each
 /// member. It takes no memory.
@@ -111,19 +148,6 @@ pub fn read_salvaged<I: Images>(
     ensures row { length row.new ≡ length row.old }
     ensures reads { ReadsUpTo (I.seen images.old) (I.seen images.new) (reads_for_all damage.now.rescue.now damage.now.set.now first (length to.old / 512)) result }
 {
-    let count = to.len() / SECTOR;
-    let mut j = 0;
-    while j < count {
-        let sector = first + j as u64;
-        let way = way_of(damage, sector, (count - j) as u64);
-        let next = j + way.count() as usize;
-        let step = Step {
-            damage: *damage,
-            first: sector,
-            way,
-        };
-        read_finished(images, &step, row, &mut to[SECTOR * j..SECTOR * next])?;
-        j = next;
-    }
+    read_each(images, damage, first, row, to)?;
     Ok(())
 }

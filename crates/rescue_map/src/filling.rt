@@ -26,6 +26,8 @@ pub(crate) struct Threading<'a, R, G> {
     pub rt: &'a R,
     /// The gate that each piece passes before its work on the first block.
     pub gate: &'a G,
+    /// Whether the next block is finished in pieces.
+    pub many: bool,
 }
 
 /// Finishes sectors of the volume, `to`: they stay where they were read themselves, one is found by `row`, a sector of each
@@ -99,13 +101,12 @@ fn fill_pieces<R: Threads + Sync, G: Gate + Sync>(
     );
 }
 
-/// Finishes the sectors of the block that begins at volume sector `first`, in pieces that may run side by side where so many of
-/// them, `found`, are to be found by their rows that threads are worth their cost. The first block is always finished in pieces, which pass the gate.
+/// Finishes the sectors of the block that begins at volume sector `first`, in pieces that may run side by side. Those of the first
+/// block pass the gate first.
 pub(crate) fn fill_block<R: Threads + Sync, G: Gate + Sync>(
     threads: &Threading<R, G>,
     damage: &Damage,
     first: u64,
-    found: usize,
     block: &mut [u8],
     rows: &[u8],
 )
@@ -115,9 +116,12 @@ pub(crate) fn fill_block<R: Threads + Sync, G: Gate + Sync>(
 {
     if first == 0 {
         fill_pieces(threads.rt, threads.gate, damage, first, block, rows);
-    } else if MANY <= found.saturating_mul(damage.set.geo.slots.len()) {
-        fill_pieces(threads.rt, &OpenGate, damage, first, block, rows);
     } else {
-        fill_piece(damage, first, 0, block, rows);
+        fill_pieces(threads.rt, &OpenGate, damage, first, block, rows);
     }
+}
+
+/// Whether it is worth the cost of threads to find so many sectors by their rows.
+pub(crate) fn are_many(damage: &Damage, found: usize) -> bool {
+    MANY <= found.saturating_mul(damage.set.geo.slots.len())
 }

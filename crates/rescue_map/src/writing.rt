@@ -12,7 +12,8 @@ ghost use Rattle.rescue_map.specs.Damaged.{IsReadable};
 ghost use Rattle.rescue_map.specs.Salvaged.{reads_for_all, salvaged_sectors, IsPiece, IsSalvaged, KeepLengths, ReadsUpTo, Salvages};
 
 use crate::damaged::Damage;
-use crate::filling::{Threading, fill_block};
+use crate::device::read_each;
+use crate::filling::{Threading, are_many, fill_block};
 use crate::reading::read_block;
 use address_map::volume_sectors;
 use gates::Gate;
@@ -25,7 +26,8 @@ use std::alloc::Global;
 use std::thread::Threads;
 use virtual_volume::VolumeFault;
 
-/// Makes the sectors of the volume from number `first` on that fit into `block`.
+/// Makes the sectors of the volume from number `first` on that fit into `block`: one after the other, or in pieces once all is read
+/// that they need. Gives how many were found by their rows.
 fn make_block<R: Threads + Sync, I: Images, G: Gate + Sync>(
     threads: &Threading<R, G>,
     images: &mut I,
@@ -33,22 +35,27 @@ fn make_block<R: Threads + Sync, I: Images, G: Gate + Sync>(
     first: u64,
     block: &mut [u8],
     rows: &mut [u8],
-) -> Result<(), Failed>
+) -> Result<usize, Failed>
     requires set { IsReadable damage.now.set.now damage.now.end (I.seen images.old).attached }
     requires block { IsPiece damage.now.set.now damage.now.end first 0 block.old rows.old }
+    requires row { 512 * length damage.now.set.now.geo.slots.items ≤ length rows.old }
     ensures told { OnOk result (IfSome (told_all (I.seen images.old).attached)
         (λ bytes. block.new ≡ salvaged_sectors bytes damage.now.rescue.now damage.now.set.now first (length block.old / 512))) }
     ensures lengths { KeepLengths block.old block.new rows.old rows.new }
     ensures reads { ReadsUpTo (I.seen images.old) (I.seen images.new) (reads_for_all damage.now.rescue.now damage.now.set.now first (length block.old / 512)) result }
 {
+    if !threads.many {
+        let row = &mut rows[..SECTOR * damage.set.geo.slots.len()];
+        return read_each(images, damage, first, row, block);
+    }
     let found = read_block(images, damage, first, block.len() / SECTOR, block, rows)?;
-    fill_block(threads, damage, first, found, block, rows);
-    Ok(())
+    fill_block(threads, damage, first, block, rows);
+    Ok(found)
 }
 
 /// Writes the sectors of the volume from number `first` on that fit into `block`.
 fn write_block<R: Threads + Sync, I: Images, K: Sink, G: Gate + Sync>(
-    threads: &Threading<R, G>,
+    threads: &mut Threading<R, G>,
     images: &mut I,
     sink: &mut K,
     damage: &Damage,
@@ -58,6 +65,7 @@ fn write_block<R: Threads + Sync, I: Images, K: Sink, G: Gate + Sync>(
 ) -> Result<(), VolumeFault>
     requires set { IsReadable damage.now.set.now damage.now.end (I.seen images.old).attached }
     requires block { IsPiece damage.now.set.now damage.now.end first 0 block.old rows.old }
+    requires row { 512 * length damage.now.set.now.geo.slots.items ≤ length rows.old }
     ensures put { IfSome (told_all (I.seen images.old).attached)
         (λ bytes. Puts (K.gained sink.old) (K.gained sink.new) result (salvaged_sectors bytes damage.now.rescue.now damage.now.set.now first (length block.old / 512))) }
     ensures unput { IsErrOf result VolumeFault.ReadFault → K.gained sink.new ≡ K.gained sink.old }
@@ -67,13 +75,16 @@ fn write_block<R: Threads + Sync, I: Images, K: Sink, G: Gate + Sync>(
     ensures ends { IfErr result IsFault }
     ensures lengths { KeepLengths block.old block.new rows.old rows.new }
 {
-    make_block(threads, images, damage, first, block, rows).map_err(|_| VolumeFault::ReadFault)?;
+    let found = make_block(threads, images, damage, first, block, rows).map_err(
+        |_| VolumeFault::ReadFault,
+    )?;
+    threads.many = are_many(damage, found);
     sink.put(block).map_err(|_| VolumeFault::WriteFault)
 }
 
 /// Writes the first `sectors` sectors of the volume, block by block.
 fn write_blocks<R: Threads + Sync, I: Images, K: Sink, G: Gate + Sync>(
-    threads: &Threading<R, G>,
+    threads: &mut Threading<R, G>,
     images: &mut I,
     sink: &mut K,
     damage: &Damage,
@@ -101,7 +112,7 @@ fn write_blocks<R: Threads + Sync, I: Images, K: Sink, G: Gate + Sync>(
 
 /// Writes the volume over images whose members all begin at the offset of the set's geometry, as they do once they are padded.
 fn salvage_over<R: Threads + Sync, I: Images, K: Sink, G: Gate + Sync>(
-    threads: &Threading<R, G>,
+    threads: &mut Threading<R, G>,
     alloc: Global,
     images: &mut I,
     sink: &mut K,
@@ -125,8 +136,8 @@ fn salvage_over<R: Threads + Sync, I: Images, K: Sink, G: Gate + Sync>(
 ///
 /// A sector whose home is good is read itself; another one is found by the good cells of its row, where no more of them are
 /// missing than the level survives; another one is lost, and is zeros. So the bytes depend on good sectors alone. The sectors
-/// of a block of 256 are found in pieces of 64 that may run side by side, where many of them are to be found; those of the first
-/// block always are, and pass the gate first, each with its number. The bytes do not depend on how pieces fall to threads.
+/// of a block of 256 are found in pieces of 64 that may run side by side, where many of the block before were to be found; those of
+/// the first block always are, and pass the gate first, each with its number. The bytes do not depend on how pieces fall to threads.
 ///
 /// Memory may run out only before anything is read or written. After that only a fault of the images or of the sink ends the
 /// work: then a prefix of the volume was written, of whole sectors where the images failed. One sector at most is read for
@@ -146,11 +157,15 @@ pub fn salvage<R: Threads + Sync, I: Images, K: Sink, G: Gate + Sync>(
     ensures { Salvages (told_all (padded_images set.now.bases.items (I.seen images.old).attached)) rescue.now set.now (volume_sectors_of set.now.geo.head end)
         (I.seen images.old) (I.seen images.new) (K.gained sink.old) (K.gained sink.new) (K.faults sink.old) (K.faults sink.new) result }
 {
-    let threads = Threading { rt, gate };
+    let mut threads = Threading {
+        rt,
+        gate,
+        many: true,
+    };
     let damage = Damage { set, end, rescue };
     if set.bases.is_empty() {
-        return salvage_over(&threads, alloc, images, sink, &damage);
+        return salvage_over(&mut threads, alloc, images, sink, &damage);
     }
     let mut padded = Padded::new(images, set.bases.as_slice());
-    salvage_over(&threads, alloc, &mut padded, sink, &damage)
+    salvage_over(&mut threads, alloc, &mut padded, sink, &damage)
 }

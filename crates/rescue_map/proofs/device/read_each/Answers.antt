@@ -8,7 +8,7 @@ use Rattle.rescue_map.proofs.AskedFor.{salvaged_all, sectors_more}
 use Rattle.rescue_map.proofs.Blocks.{reads_blocks, reads_some}
 use Rattle.rescue_map.proofs.Passed.{damage_of, volume_short}
 use borrow.Rule.Slice.PartMut.{put_mid}
-use Rattle.rescue_map.proofs.device.read_salvaged.Goals as goal
+use Rattle.rescue_map.proofs.device.read_each.Goals as goal
 
 pub overflow_add-sector : goal.overflow_add-sector
 overflow_add-sector g c =
@@ -43,6 +43,7 @@ loop-j-preserved g c =
     let next : c.count.result ≡ m = c.count.ensures in
     let less = c.loop-j-test.true in
     let some = c.way_of-way.ensures.some in
+    let one = c.unsolved-found.ensures in
     let most = c.way_of-way.ensures.most in
     let long : length c.loop-j.to ≡ length c.args.to.now = c.loop-j.invariant.long in
     let to : length c.read_finished.new.to ≡ 512 * m = c.read_finished.ensures.lengths.block ∙ part_long c.loop-j.to j c.count.result (omega arith) ∙ ap (λ (k : ℕ). 512 * k) next in
@@ -50,6 +51,7 @@ loop-j-preserved g c =
     let now : IfSome (told_all (g.I.Images.seen c.loop-j.images).attached) (λ bytes. AreSalvaged bytes damage.rescue.now set (c.args.first + j) m c.read_finished.new.to) = c.in_ok-read_finished.ensures.told in
     record {
       within = omega arith;
+      few = omega arith;
       long = omega arith;
       row = c.read_finished.ensures.lengths.rows ∙ c.loop-j.invariant.row;
       reads =

@@ -693,7 +693,7 @@ class Evidence(unittest.TestCase):
 
     def test_in_which_order(self) -> None:
         """Metadata; data that begin at unlike sectors; two images that may be copies, few missing; families; such images, more missing; copies; whole
-        images that are the same; copies without an image; what nothing ties."""
+        images that are the same; what nothing ties. Of copies those too of which an image is left out."""
         it, _ = evident([Image(name, number, 300, first=0) for number, name in enumerate("abc")], Standin({}, Answer(None)), Options(("a",)))
 
         def aims(why: str) -> Any:
@@ -701,10 +701,21 @@ class Evidence(unittest.TestCase):
             return lambda *_: [Aim((0, 1, 2), Span(0, 300), why, (Shape("0", 3),))] * count
         with mock.patch.multiple(it, unlike=aims("unlike"), alike=aims("alike"), by_metadata=aims("metadata")), \
                 mock.patch.multiple("reraid_try.policy.evident.plain", perhaps_copied=aims("perhaps"), tied=aims("tied"), copied=aims("copied"),
-                                    without_one=lambda them, _: [dataclasses.replace(aim, why=f"{aim.why} without") for aim in them],
+                                    without_each=lambda them, images: [dataclasses.replace(aim, why=f"{aim.why} without {images}") for aim in them],
                                     untied=aims("untied")):
             self.assertEqual([aim.why for aim in it.aims(Part((0, 1, 2), Span(0, 300)))],
-                             ["metadata", "unlike", "perhaps", "tied", "perhaps", "copied", "alike", "copied without", "untied"])
+                             ["metadata", "unlike", "perhaps", "tied", "perhaps", "copied without []", "alike without []", "untied"])
+
+    def test_images_without_their_like(self) -> None:
+        """Those that neither are the same as another one nor have one that is, and hold something."""
+        images = [Image("a", number, 300, first=None if number == 5 else 0, like={1: 0}.get(number)) for number in range(6)]
+        it, _ = evident(images, Standin({}, Answer(None)), Options(("a",)))
+        self.assertEqual(it.without_like(), [2, 3, 4])
+        with mock.patch.multiple(it, unlike=lambda *_: [], by_metadata=lambda *_: []), \
+                mock.patch("reraid_try.policy.evident.plain.tied", side_effect=([], [Aim((2, 3), Span(0, 300), "tied")])):
+            found = [it.aims(Part((0, 2, 3, 4), Span(0, 300))) for _ in range(2)]
+        self.assertEqual([aim.images for aim in found[0]], [(0, 1, 2, 3, 4), (0, 1, 3, 4), (0, 1, 2, 4), (0, 1, 2, 3), (0, 1, 2, 3, 4)])
+        self.assertEqual([aim.images for aim in found[1]], [(2, 3), (0, 1, 2, 3, 4)])
 
     def test_how_many_are_alike(self) -> None:
         """As many as most of the images that have their like; one where none has."""

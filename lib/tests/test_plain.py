@@ -9,7 +9,7 @@ from reraid_try.evidence.ties import Known, Told
 from reraid_try.evidence.unlike import Unlike
 from reraid_try.options import Options
 from reraid_try.policy import plain
-from reraid_try.policy.plain import Span
+from reraid_try.policy.plain import Aim, Span
 from reraid_try.policy.shapes import Shape
 
 SPAN = Span(0, 1000)
@@ -92,16 +92,23 @@ class Aims(unittest.TestCase):
         self.assertEqual(plain.tied(told, range(3), SPAN, ALL), [])
 
     def test_copies_beside_a_foreign_image(self) -> None:
-        """One that nothing ties is left out, or one of three that hold the same; none where hardly more than copies would be left."""
+        """One that nothing ties is left out, or one of three that hold the same; between few members missing and more."""
         pair, three = (Known(Family(images, 900, 8, 900, "10", 0, copies=((0, 2),))) for images in ((0, 2), (0, 2, 3)))
-        for told, count, wanted in ((Told((pair,), (1, 3), True), 4, [(0, 2, 3), (0, 1, 2)]),
-                                    (Told((three,), (), True), 4, [(1, 2, 3), (0, 1, 3), (0, 1, 2)]),
-                                    (Told((pair,), (), True), 4, []), (Told((pair,), (1,), True), 3, [])):
-            found = plain.without_one(plain.copied(told, range(count), SPAN, ALL), told)
-            self.assertEqual([aim.images for aim in found], wanted)
-            self.assertEqual({(aim.copied, aim.missing) for aim in found}, {(True, (0, 1))} if wanted else set())
-        self.assertEqual(plain.without_one(plain.copied(Told((pair,), (1, 3), True), range(4), SPAN, ALL), Told((), (1,)))[0].why,
-                         "images 0 and 2 hold the same; image 1 may be foreign or a bad copy, so it is left out")
+        self.assertEqual([plain.doubtful(told) for told in (Told((pair,), (1, 3), True), Told((three,), (1,), True), Told((pair,), (), True))],
+                         [[1, 3], [1, 0, 2, 3], []])
+        all_of, = plain.copied(Told((pair,), (1, 3), True), range(4), SPAN, ALL)
+        found = plain.without_each([all_of], [1, 3])
+        self.assertEqual([(aim.images, aim.missing) for aim in found],
+                         [((0, 1, 2, 3), (0, 1)), ((0, 2, 3), (0, 1)), ((0, 1, 2), (0, 1)), ((0, 1, 2, 3), (2, 3))])
+        left_out = [f"images 0 and 2 hold the same; image {image} may be foreign or a bad copy, so it is left out" for image in (1, 3)]
+        self.assertEqual([aim.why for aim in found], [all_of.why, *left_out, all_of.why])
+        self.assertTrue(all(aim.copied for aim in found))
+
+    def test_no_image_to_be_left_out(self) -> None:
+        """An aim stays as it is where no image is doubtful, or hardly more than copies would be left."""
+        for count, images in ((4, ()), (3, (1,))):
+            aims = [Aim(tuple(range(count)), SPAN, "why", copied=True)]
+            self.assertEqual(plain.without_each(aims, images), aims)
 
     def test_two_images_that_are_the_same_in_some_rows(self) -> None:
         """Copies of a RAID 10, as is tried first, or what level 5 has of three disks of which one is lost."""

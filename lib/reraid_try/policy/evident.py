@@ -141,8 +141,8 @@ class Evident:
         self.search.reshapes += [it.family.reshape for it in found.known if it.family.reshape and it.family.reshape not in self.search.reshapes]
         ways = plain.perhaps_copied, plain.tied, plain.copied, plain.untied
         perhaps, tied, copied, untied = (of(found, part.images, part.span, self.options) for of in ways)
-        others = [*self.unlike(asked, found, part), *perhaps[:1], *tied, *perhaps[1:], *copied, *self.alike(part), *plain.without_one(copied, found),
-                  *untied]
+        copied, alike = plain.without_each(copied, plain.doubtful(found)), plain.without_each(self.alike(part), [] if tied else self.without_like())
+        others = [*self.unlike(asked, found, part), *perhaps[:1], *tied, *perhaps[1:], *copied, *alike, *untied]
         return [*self.by_metadata(part), *plain.with_thousands(others, plain.silent(found, part.images, self.options))]
 
     def alike(self, part: Part) -> list[Aim]:
@@ -153,6 +153,11 @@ class Evident:
         why = "; ".join(f"image {image.number} is the same as image {image.like}" for image in same)
         there = [image for image in self.search.images if image.first is not None]
         return [Aim(tuple(image.number for image in there), part.span, why, copied=True)]
+
+    def without_like(self) -> list[int]:
+        """The images that hold something, of which none holds the same as another."""
+        like = {image.like for image in self.search.images}
+        return [image.number for image in self.images() if image.number not in like]
 
     def say(self, event: str, lines: Iterable[str]) -> None:
         """Says what is known, a line each."""

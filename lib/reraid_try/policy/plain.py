@@ -177,16 +177,22 @@ def copied_by(known: Iterable[Known], numbers: Sequence[int], span: Span, option
     return [Aim(tuple(numbers), span, "; ".join(ties.lines(Told(found, asked=True))), copied=True)]
 
 
-def without_one(aims: Iterable[Aim], told: Told) -> list[Aim]:
-    """These aims with one image left out: one that nothing ties, which may be foreign, and then one of three that hold the same, which may be a bad
-    copy."""
+def doubtful(told: Told) -> list[int]:
+    """The images that may be none of a RAID 10 of which others are copies: one that nothing ties may be foreign, and one of three that hold the same
+    a bad copy."""
     several = sorted(image for it in told.known if it.family.level == COPIES and len(it.family.images) > 2 for image in it.family.images)
+    return [*told.alone, *several]
+
+
+def without_each(aims: Iterable[Aim], images: Sequence[int]) -> list[Aim]:
+    """These aims, with few members missing; then without one of these images, each in turn; and then with more missing."""
     found = []
     for aim in aims:
-        for image in (*told.alone, *several) if len(aim.images) > LEAST_STRIPED else ():
-            rest = tuple(it for it in aim.images if it != image)
-            why = f"{aim.why}; image {image} may be foreign or a bad copy, so it is left out"
-            found.append(dataclasses.replace(aim, images=rest, why=why, missing=FEW_MISSING))
+        without = [dataclasses.replace(aim, images=tuple(it for it in aim.images if it != image), missing=FEW_MISSING,
+                                       why=f"{aim.why}; image {image} may be foreign or a bad copy, so it is left out")
+                   for image in images if len(aim.images) > LEAST_STRIPED]
+        few, more = (dataclasses.replace(aim, missing=missing) for missing in (FEW_MISSING, MORE_MISSING))
+        found += [few, *without, more] if without else [aim]
     return found
 
 

@@ -13,6 +13,7 @@ pub mod Firsts
 pub mod Lengths
 pub mod Owners
 pub mod Marks
+pub mod MarksSeen
 pub mod Once
 pub mod Law
 pub mod Leaves

@@ -21,28 +21,28 @@ use Rattle.survey_engine.specs.declared.sighting.Sighting.{Sighting}
 
 -- ---- once the first sightings were looked at
 
-pub sized_to : List ℕ → List (List ℕ) → List Sighting → ℕ → List Sighting
-sized_to lengths images found n = map (sized lengths images) (take n found) ++ drop n found
+pub sized_to : Bool → List ℕ → List (List ℕ) → List Sighting → ℕ → List Sighting
+sized_to asked lengths images found n = map (sized asked lengths images) (take n found) ++ drop n found
 
-pub SizedTo : Option (List (List ℕ)) → List ℕ → List Sighting → ℕ → List Sighting → Type 0
-SizedTo bytes lengths found n new = IfSome bytes (λ images. new ≡ sized_to lengths images found n)
+pub SizedTo : Option (List (List ℕ)) → Bool → List ℕ → List Sighting → ℕ → List Sighting → Type 0
+SizedTo bytes asked lengths found n new = IfSome bytes (λ images. new ≡ sized_to asked lengths images found n)
 
-pub sized_none : (bytes : Option (List (List ℕ))) (lengths : List ℕ) (found : List Sighting) → SizedTo bytes lengths found 0 found
+pub sized_none : (bytes : Option (List (List ℕ))) (asked : Bool) (lengths : List ℕ) (found : List Sighting) → SizedTo bytes asked lengths found 0 found
 unfolding SizedTo sized_to
-sized_none None lengths found = tt
-sized_none (Some images) lengths found = refl
+sized_none None asked lengths found = tt
+sized_none (Some images) asked lengths found = refl
 
-pub sized_more : (bytes : Option (List (List ℕ))) (lengths : List ℕ) (found ys : List Sighting) (i : ℕ) (s new : Sighting) → i < length found → SizedTo bytes lengths found i ys → s ≡ get_or ys i s →
-    IfSome bytes (λ images. new ≡ sized lengths images s) → SizedTo bytes lengths found (i + 1) (slice_set ys i new)
+pub sized_more : (bytes : Option (List (List ℕ))) (asked : Bool) (lengths : List ℕ) (found ys : List Sighting) (i : ℕ) (s new : Sighting) → i < length found → SizedTo bytes asked lengths found i ys → s ≡ get_or ys i s →
+    IfSome bytes (λ images. new ≡ sized asked lengths images s) → SizedTo bytes asked lengths found (i + 1) (slice_set ys i new)
 unfolding SizedTo sized_to
-sized_more None lengths found ys i s new below so is adds = tt
-sized_more (Some images) lengths found ys i s new below so is adds = ap (slice_set ys i) adds ∙ map_over_more (sized lengths images) found ys i s below so is
+sized_more None asked lengths found ys i s new below so is adds = tt
+sized_more (Some images) asked lengths found ys i s new below so is adds = ap (slice_set ys i) adds ∙ map_over_more (sized asked lengths images) found ys i s below so is
 
-pub sized_all : (bytes : Option (List (List ℕ))) (lengths : List ℕ) (found new : List Sighting) (n : ℕ) → length found ≤ n → SizedTo bytes lengths found n new → IfSome bytes (λ images. new ≡ all_sized lengths images found)
+pub sized_all : (bytes : Option (List (List ℕ))) (asked : Bool) (lengths : List ℕ) (found new : List Sighting) (n : ℕ) → length found ≤ n → SizedTo bytes asked lengths found n new → IfSome bytes (λ images. new ≡ all_sized asked lengths images found)
 unfolding SizedTo sized_to
-sized_all None lengths found new n all so = tt
-sized_all (Some images) lengths found new n all so =
-    so ∙ ap₂ (λ (a b : List Sighting). map (sized lengths images) a ++ b) (take_all n found all) (drop_all n found all) ∙ append-nil (map (sized lengths images) found)
+sized_all None asked lengths found new n all so = tt
+sized_all (Some images) asked lengths found new n all so =
+    so ∙ ap₂ (λ (a b : List Sighting). map (sized asked lengths images) a ++ b) (take_all n found all) (drop_all n found all) ∙ append-nil (map (sized asked lengths images) found)
 
 -- ---- sightings stay what they are but for that
 
@@ -72,30 +72,30 @@ weight : (b : Bool) → ◌≡◌ {A = ℕ} (cond b 4 0) (4 * cond b 1 0)
 weight true = refl
 weight false = refl
 
-pub one_sized : (a b c : Seen) (lengths : List ℕ) (found : List Sighting) (i : ℕ) (s : Sighting) → i < length found → s ≡ get_or found i s → OnlyReads a b (4 * count_by (has_run lengths) (take i found)) → OnlyReads b c (cond (has_run lengths s) 4 0) →
-    OnlyReads a c (4 * count_by (has_run lengths) (take (i + 1) found))
-one_sized a b c lengths found i s below is ab bc =
-    let run : ◌≡◌ {A = ℕ} (cond (has_run lengths s) 4 0) (4 * cond (has_run lengths (get_or found i s)) 1 0) = ap (λ (t : Sighting). cond (has_run lengths t) 4 0) is ∙ weight (has_run lengths (get_or found i s)) in
-    reads_up a c (reads_join a b c ab bc) (omega (arith, sum_by_more (λ (t : Sighting). cond (has_run lengths t) 1 0) found i s below, run))
+pub one_sized : (a b c : Seen) (asked : Bool) (lengths : List ℕ) (found : List Sighting) (i : ℕ) (s : Sighting) → i < length found → s ≡ get_or found i s → OnlyReads a b (4 * count_by (has_run asked lengths) (take i found)) → OnlyReads b c (cond (has_run asked lengths s) 4 0) →
+    OnlyReads a c (4 * count_by (has_run asked lengths) (take (i + 1) found))
+one_sized a b c asked lengths found i s below is ab bc =
+    let run : ◌≡◌ {A = ℕ} (cond (has_run asked lengths s) 4 0) (4 * cond (has_run asked lengths (get_or found i s)) 1 0) = ap (λ (t : Sighting). cond (has_run asked lengths t) 4 0) is ∙ weight (has_run asked lengths (get_or found i s)) in
+    reads_up a c (reads_join a b c ab bc) (omega (arith, sum_by_more (λ (t : Sighting). cond (has_run asked lengths t) 1 0) found i s below, run))
 
-pub none_sized : (a : Seen) (lengths : List ℕ) (found : List Sighting) → OnlyReads a a (4 * count_by (has_run lengths) (take 0 found))
-none_sized a lengths found = reads_up a a (reads_none a) (omega arith)
+pub none_sized : (a : Seen) (asked : Bool) (lengths : List ℕ) (found : List Sighting) → OnlyReads a a (4 * count_by (has_run asked lengths) (take 0 found))
+none_sized a asked lengths found = reads_up a a (reads_none a) (omega arith)
 
-pub some_sized : (a b : Seen) (lengths : List ℕ) (found : List Sighting) (n : ℕ) → OnlyReads a b (4 * count_by (has_run lengths) (take n found)) → OnlyReads a b (4 * count_by (has_run lengths) found)
-some_sized a b lengths found n ab = reads_up a b ab (omega (arith, sum_by-take-le (λ (t : Sighting). cond (has_run lengths t) 1 0) found n))
+pub some_sized : (a b : Seen) (asked : Bool) (lengths : List ℕ) (found : List Sighting) (n : ℕ) → OnlyReads a b (4 * count_by (has_run asked lengths) (take n found)) → OnlyReads a b (4 * count_by (has_run asked lengths) found)
+some_sized a b asked lengths found n ab = reads_up a b ab (omega (arith, sum_by-take-le (λ (t : Sighting). cond (has_run asked lengths t) 1 0) found n))
 
 -- ---- of one of them
 
 -- the image has it
-fits : (lengths : List ℕ) (s : Sighting) → has_run lengths s ≡ true → s.sector + 4 ≤ slice_index lengths s.image
+fits : (asked : Bool) (lengths : List ℕ) (s : Sighting) → has_run asked lengths s ≡ true → s.sector + 4 ≤ slice_index lengths s.image
 unfolding has_run
-fits lengths s is = grind (arith, nat_tests)
+fits asked lengths s is = grind (arith, nat_tests)
 
-pub run_within : (attached : List Image) (lengths : List ℕ) (s : Sighting) → lengths ≡ lengths_of attached → IsInImages lengths s → has_run lengths s ≡ true → AreWithin attached s.image s.sector 2048
-run_within attached lengths s are in_it is = record {
+pub run_within : (attached : List Image) (asked : Bool) (lengths : List ℕ) (s : Sighting) → lengths ≡ lengths_of attached → IsInImages lengths s → has_run asked lengths s ≡ true → AreWithin attached s.image s.sector 2048
+run_within attached asked lengths s are in_it is = record {
   whole = refl;
   some = omega arith;
-  inside = reaches attached s.image (s.sector + 4) (image_there attached lengths s.image s.sector are in_it.sector) (subst (λ (l : List ℕ). s.sector + 4 ≤ get_or l s.image 0) are (fits lengths s is));
+  inside = reaches attached s.image (s.sector + 4) (image_there attached lengths s.image s.sector are in_it.sector) (subst (λ (l : List ℕ). s.sector + 4 ≤ get_or l s.image 0) are (fits asked lengths s is));
 }
 
 run_read : (attached : List Image) (bytes : Option (List (List ℕ))) (s : Sighting) (run : List ℕ) → told_all attached ≡ bytes → s.image < length attached → AreTold attached s.image s.sector run → length run ≡ 2048 → IfSome bytes (λ images. run ≡ run_of images s)
@@ -106,14 +106,14 @@ pub run_told : (attached : List Image) (lengths : List ℕ) (s : Sighting) (run 
 run_told attached lengths s run lengths_are in_it are long = run_read attached (told_all attached) s run refl (image_there attached lengths s.image s.sector lengths_are in_it.sector) are long
 
 -- where nothing is read it stays
-pub no_run : (bytes : Option (List (List ℕ))) (lengths : List ℕ) (s : Sighting) → has_run lengths s ≡ false → IfSome bytes (λ images. s ≡ sized lengths images s)
+pub no_run : (bytes : Option (List (List ℕ))) (asked : Bool) (lengths : List ℕ) (s : Sighting) → has_run asked lengths s ≡ false → IfSome bytes (λ images. s ≡ sized asked lengths images s)
 unfolding sized
-no_run None lengths s fails = tt
-no_run (Some images) lengths s fails = rw fails refl
+no_run None asked lengths s fails = tt
+no_run (Some images) asked lengths s fails = rw fails refl
 
-pub by_run : (bytes : Option (List (List ℕ))) (lengths : List ℕ) (s : Sighting) (run : List ℕ) (landmark : Landmark) → has_run lengths s ≡ true → IfSome bytes (λ images. run ≡ run_of images s) → landmark ≡ landmark_by_run run s.landmark →
-    IfSome bytes (λ images. ◌≡◌ {A = Sighting} (record { image = s.image; sector = s.sector; landmark = landmark }) (sized lengths images s))
+pub by_run : (bytes : Option (List (List ℕ))) (asked : Bool) (lengths : List ℕ) (s : Sighting) (run : List ℕ) (landmark : Landmark) → has_run asked lengths s ≡ true → IfSome bytes (λ images. run ≡ run_of images s) → landmark ≡ landmark_by_run run s.landmark →
+    IfSome bytes (λ images. ◌≡◌ {A = Sighting} (record { image = s.image; sector = s.sector; landmark = landmark }) (sized asked lengths images s))
 unfolding sized
-by_run None lengths s run landmark is read so = tt
-by_run (Some images) lengths s run landmark is read so =
+by_run None asked lengths s run landmark is read so = tt
+by_run (Some images) asked lengths s run landmark is read so =
     ap (λ (l : Landmark). record { image = s.image; sector = s.sector; landmark = l }) (so ∙ ap (λ (l : List ℕ). landmark_by_run l s.landmark) read) ∙ rw is refl

@@ -178,17 +178,26 @@ run_few : (landmark : Landmark) (b : Bool) → cond (is_unsized landmark && b) 1
 run_few (Inode i) b = both_one (not (is_some i.bytes)) b
 run_few landmark b = omega arith
 
-runs_are_few : (lengths : List ℕ) (found : List Sighting) → count_by (has_run lengths) found ≤ count_by (is_same_kind Xfs5Kind) found
+runs_are_few : (lengths : List ℕ) (found : List Sighting) → count_by (has_run true lengths) found ≤ count_by (is_same_kind Xfs5Kind) found
 unfolding has_run
 runs_are_few lengths found =
-    sum_by-le-sum_by (λ (s : Sighting). cond (has_run lengths s) 1 0) (λ (s : Sighting). cond (is_same_kind Xfs5Kind s) 1 0) found (λ s. run_few s.landmark (nat_le (s.sector + 4) (slice_index lengths s.image)))
+    sum_by-le-sum_by (λ (s : Sighting). cond (has_run true lengths s) 1 0) (λ (s : Sighting). cond (is_same_kind Xfs5Kind s) 1 0) found (λ s. run_few s.landmark (nat_le (s.sector + 4) (slice_index lengths s.image)))
+
+no_runs : (lengths : List ℕ) (found : List Sighting) → count_by (has_run false lengths) found ≤ 0
+unfolding has_run
+no_runs lengths [] = omega arith
+no_runs lengths (s ∷ found) = omega (arith, sum_by-cons (λ (t : Sighting). cond (has_run false lengths t) 1 0) s found, no_runs lengths found)
+
+runs_most : (asked : Bool) (lengths : List ℕ) (found : List Sighting) → count_by (is_same_kind Xfs5Kind) found ≤ 4096 → 4 * count_by (has_run asked lengths) found ≤ cond asked (4 * 4096) 0
+runs_most true lengths found few = omega (arith, runs_are_few lengths found, few)
+runs_most false lengths found few = omega (arith, no_runs lengths found)
 
 runs_of : (bytes : Option (List (List ℕ))) (ask : Ask) (attached : List Image) (lengths : List ℕ) (found : List Sighting) → lengths ≡ lengths_of attached → IfSome bytes (λ images. found ≡ found_in ask attached images) →
-    count_by (is_same_kind Xfs5Kind) found ≤ 4096 → 4 * count_by (has_run lengths) found ≤ inodes_read bytes ask attached
-runs_of None ask attached lengths found are is few = omega (arith, runs_are_few lengths found, few)
+    count_by (is_same_kind Xfs5Kind) found ≤ 4096 → 4 * count_by (has_run ask.kinds.xfs5 lengths) found ≤ inodes_read bytes ask attached
+runs_of None ask attached lengths found are is few = runs_most ask.kinds.xfs5 lengths found few
 runs_of (Some images) ask attached lengths found are is few =
-    let same : count_by (has_run lengths) found ≡ count_by (has_run (lengths_of attached)) (found_in ask attached images) =
-    ap (λ (ns : List ℕ). count_by (has_run ns) found) are ∙ ap (λ (l : List Sighting). count_by (has_run (lengths_of attached)) l) is in
+    let same : count_by (has_run ask.kinds.xfs5 lengths) found ≡ count_by (has_run ask.kinds.xfs5 (lengths_of attached)) (found_in ask attached images) =
+    ap (λ (ns : List ℕ). count_by (has_run ask.kinds.xfs5 ns) found) are ∙ ap (λ (l : List Sighting). count_by (has_run ask.kinds.xfs5 (lengths_of attached)) l) is in
     omega (arith, same)
 
 -- leaves and copies are those that they were before inodes were looked at
@@ -208,7 +217,7 @@ sweep_read a b ask ab = reads_up a b ab (omega arith)
 
 pub survey_read : (a b c d e : Seen) (ask : Ask) (lengths : List ℕ) (found new : List Sighting) → lengths ≡ lengths_of a.attached → IfSome (told_all a.attached) (λ bytes. found ≡ found_in ask a.attached bytes) →
     ((kind : Kind) → count_by (is_same_kind kind) found ≤ 4096) → map bare new ≡ map bare found → OnlyReads a b (length a.attached * (ask.end - slice_index ask.bounds.offsets.items 0)) → OnlyReads b c (count_by (is_followed lengths) found) →
-    OnlyReads c d (4 * count_by (has_run lengths) found) → OnlyReads d e (32 * count_by (is_leaf lengths) new + 256 * count_by (has_copy ask.kinds.extinode lengths) new) → OnlyReads a e (survey_reads ask a.attached)
+    OnlyReads c d (4 * count_by (has_run ask.kinds.xfs5 lengths) found) → OnlyReads d e (32 * count_by (is_leaf lengths) new + 256 * count_by (has_copy ask.kinds.extinode lengths) new) → OnlyReads a e (survey_reads ask a.attached)
 unfolding survey_reads
 survey_read a b c d e ask lengths found new are is few alike ab bc cd de =
     reads_up a e (reads_join a d e (reads_join a c d (reads_join a b c ab bc) cd) de)
@@ -226,5 +235,5 @@ survey_read a b c d e ask lengths found new are is few alike ab bc cd de =
 pub none_read : (a : Seen) (asked : Bool) (lengths : List ℕ) (found : List Sighting) → OnlyReads a a (32 * count_by (is_leaf lengths) found + 256 * count_by (has_copy asked lengths) found)
 none_read a asked lengths found = reads_up a a (reads_none a) (omega arith)
 
-pub none_sized : (a : Seen) (lengths : List ℕ) (found : List Sighting) → OnlyReads a a (4 * count_by (has_run lengths) found)
-none_sized a lengths found = reads_up a a (reads_none a) (omega arith)
+pub none_sized : (a : Seen) (asked : Bool) (lengths : List ℕ) (found : List Sighting) → OnlyReads a a (4 * count_by (has_run asked lengths) found)
+none_sized a asked lengths found = reads_up a a (reads_none a) (omega arith)

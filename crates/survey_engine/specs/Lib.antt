@@ -2,6 +2,7 @@ pub mod Sweep
 pub mod Kept
 pub mod Landmarks
 pub mod Exclusion
+pub mod Stretches
 pub mod Sightings
 pub mod Blocks
 pub mod Telling

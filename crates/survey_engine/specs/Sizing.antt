@@ -11,9 +11,10 @@ abbrev pub is_unsized : Landmark → Bool
 is_unsized (Inode i) = not (is_some i.bytes)
 is_unsized landmark = false
 
--- a sighting is one, and the image has the four sectors of the largest inode, in images of these lengths
-unfoldable pub has_run : List ℕ → Sighting → Bool
-has_run lengths s = is_unsized s.landmark && nat_le (s.sector + 4) (slice_index lengths s.image)
+-- inodes of XFS are looked for, and a sighting is one of which the image has the four sectors of the largest inode, in images of these
+-- lengths
+unfoldable pub has_run : Bool → List ℕ → Sighting → Bool
+has_run asked lengths s = asked && is_unsized s.landmark && nat_le (s.sector + 4) (slice_index lengths s.image)
 
 -- the bytes of these
 abbrev pub run_of : List (List ℕ) → Sighting → List ℕ
@@ -25,10 +26,10 @@ landmark_by_run run (Inode i) = Inode (record { inode = i.inode; bytes = larger_
 landmark_by_run run landmark = landmark
 
 -- a sighting, once they were read
-unfoldable pub sized : List ℕ → List (List ℕ) → Sighting → Sighting
-sized lengths images s =
-    if has_run lengths s then record { image = s.image; sector = s.sector; landmark = landmark_by_run (run_of images s) s.landmark } else s
+unfoldable pub sized : Bool → List ℕ → List (List ℕ) → Sighting → Sighting
+sized asked lengths images s =
+    if has_run asked lengths s then record { image = s.image; sector = s.sector; landmark = landmark_by_run (run_of images s) s.landmark } else s
 
 -- all sightings, each of them
-abbrev pub all_sized : List ℕ → List (List ℕ) → List Sighting → List Sighting
-all_sized lengths images found = map (sized lengths images) found
+abbrev pub all_sized : Bool → List ℕ → List (List ℕ) → List Sighting → List Sighting
+all_sized asked lengths images found = map (sized asked lengths images) found

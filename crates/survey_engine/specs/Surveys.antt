@@ -57,9 +57,11 @@ copies_read bytes ask attached =
     (if ask.kinds.extinode then 256 * 4096 else 0)
 
 -- the most sectors from first sectors of inodes of XFS on that have more: 4 for each that counts and of which its image has them, where
--- the bytes are known, and else 4 * 4,096
+-- inodes of XFS are looked for, and where the bytes are not known 4 * 4,096
 abbrev pub inodes_read : Option (List (List ℕ)) → Ask → List Image → ℕ
-inodes_read bytes ask attached = option_map_or (λ images. 4 * count_by (has_run (lengths_of attached)) (found_in ask attached images)) bytes (4 * 4096)
+inodes_read bytes ask attached =
+    option_map_or (λ images. 4 * count_by (has_run ask.kinds.xfs5 (lengths_of attached)) (found_in ask attached images)) bytes
+    (if ask.kinds.xfs5 then 4 * 4096 else 0)
 
 -- the most sectors that it reads: each of each image from the smallest offset to the end once, those of entries, those of larger inodes
 -- of XFS, those of leaves, and those from copies on
@@ -80,7 +82,7 @@ pub record Repeats (ask : Ask) (attached : List Image) (plan : Plan) : Type 0 wh
 
 -- the sightings that count, with how many bytes inodes have
 abbrev pub sized_in : Ask → List Image → List (List ℕ) → List Sighting
-sized_in ask attached images = all_sized (lengths_of attached) images (found_in ask attached images)
+sized_in ask attached images = all_sized ask.kinds.xfs5 (lengths_of attached) images (found_in ask attached images)
 
 -- what it adds, by the images' bytes: groups of these with what some tell of others, and origins
 pub record Adds (ask : Ask) (attached : List Image) (images : List (List ℕ)) (plan : Plan) : Type 0 where

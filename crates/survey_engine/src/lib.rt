@@ -20,7 +20,8 @@
 //! `specs/Surveys`. Each filters one list of all sectors; the code looks at each sector once. That no sector is by its
 //! front of two kinds is the law [`no_sector_is_of_two_kinds`]; a superblock of btrfs or ext is what is none of them, an inode of XFS of
 //! 512 bytes what is none of these, a tree block what is no such inode either, two inodes of ext4 what is no tree block either, and
-//! what may begin a larger inode of XFS what is nothing else.
+//! what may begin a larger inode of XFS what is nothing else. That no inode of XFS is passed over that may be a mark is the law
+//! [`no_mark_is_passed_over`].
 #![tactic(auto)]
 
 mod ask;
@@ -35,6 +36,7 @@ mod owner;
 mod planning;
 mod sighting;
 mod sizing;
+mod stretches;
 mod sweep;
 mod telling;
 
@@ -42,3 +44,4 @@ pub use ask::Ask;
 pub use excluding::no_sector_is_of_two_kinds;
 pub use planning::{SurveyFault, survey};
 pub use search_plan::{DropAt, Kinds};
+pub use stretches::no_mark_is_passed_over;

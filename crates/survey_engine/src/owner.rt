@@ -19,7 +19,7 @@ use ntfs_marks::{NtfsBoot, NtfsRecord};
 use sector_fields::{DISTANCE_LIMIT, SECTOR};
 use uuid::Uuid;
 use xfs_marks::XfsSuper;
-use xfs5::{XfsInode, XfsInodes};
+use xfs5::XfsInodes;
 
 /// A file system of ext2, ext3 or ext4, by what each copy of its superblock says of it.
 #[derive(Clone, Copy)]
@@ -177,9 +177,7 @@ impl Owner {
             }
             (Owner::Ext(volume), Landmark::Ext(copy)) if is_same_volume(volume, &volume_of(copy)) =>
                 { Some(Rule::At(copy.copy_sector)) }
-            (Owner::Xfs5(places), Landmark::Inode(seen)) if is_mark_of(places, seen) => {
-                inode_rule(places, &seen.inode)
-            }
+            (Owner::Xfs5(places), Landmark::Inode(seen)) => inode_rule(places, seen),
             (Owner::Trees(identifier), Landmark::Tree(tree))
                 if is_same_uuid(identifier, &tree.block.identifier) => tree_rule(tree),
             (Owner::Extinode(identifier), Landmark::Placed(_, place))
@@ -276,12 +274,16 @@ fn has_size(places: &XfsInodes, bytes: Option<u16>) -> bool
     }
 }
 
-/// Where an inode may lie in a file system, if that has its group and block.
-fn inode_rule(places: &XfsInodes, inode: &XfsInode) -> Option<Rule>
+/// Where an inode may lie that is a mark of a file system, if that has its group and block.
+fn inode_rule(places: &XfsInodes, seen: &InodeSeen) -> Option<Rule>
     requires { IsTrue (is_sound_place places.now) }
-    ensures { result ≡ option_map At (inode_sector places.now inode.now.number) }
+    ensures { result ≡ if is_mark_of places.now seen.now then option_map At (inode_sector places.now seen.now.inode.number) else None }
 {
-    places.inode_sector(inode.number).map(Rule::At)
+    if is_mark_of(places, seen) {
+        places.inode_sector(seen.inode.number).map(Rule::At)
+    } else {
+        None
+    }
 }
 
 /// The owner that a tree block names, where it is known where it lies.

@@ -61,7 +61,7 @@ returns-in_err-origins-clause-reads g c =
     let are : AreSightings c.deref.result.now c.in_ok-found.found.items = search rules in
     let there = g.I.Images.seen c.origins.new.images in
     survey_read (g.I.Images.seen c.args.images.now) (g.I.Images.seen c.gather.new.images) there there there c.args.ask.now c.lengths-lengths.result.items c.in_ok-found.found.items c.in_ok-found.found.items
-    (search rules) (search rules) are.few refl (search rules) (search rules) (none_sized there c.lengths-lengths.result.items c.in_ok-found.found.items) (none_read there c.args.ask.now.kinds.extinode c.lengths-lengths.result.items c.in_ok-found.found.items)
+    (search rules) (search rules) are.few refl (search rules) (search rules) (none_sized there c.args.ask.now.kinds.xfs5 c.lengths-lengths.result.items c.in_ok-found.found.items) (none_read there c.args.ask.now.kinds.extinode c.lengths-lengths.result.items c.in_ok-found.found.items)
 
 pub returns-in_err-map_err-clause-reads : goal.returns-in_err-map_err-clause-reads
 returns-in_err-map_err-clause-reads g c =

@@ -8,10 +8,10 @@ pub loop-place-init : goal.loop-place-init
 loop-place-init g c =
     let before = g.I.Images.seen c.args.images.now in
     record {
-      sized = sized_none (told_all before.attached) c.args.lengths.now c.args.found.now;
+      sized = sized_none (told_all before.attached) c.args.asked c.args.lengths.now c.args.found.now;
       alike = refl;
       later = refl;
-      reads = none_sized before c.args.lengths.now c.args.found.now;
+      reads = none_sized before c.args.asked c.args.lengths.now c.args.found.now;
       stays = refl;
     }
 
@@ -29,10 +29,10 @@ loop-place-preserved g c =
     let below : c.loop-place.place < length c.args.found.now = omega arith in
     let there = later_at c.args.found.now c.loop-place.found c.loop-place.place s c.loop-place.invariant.later c.index-found-place.is in
     record {
-      sized = sized_more (told_all before.attached) c.args.lengths.now c.args.found.now c.loop-place.found c.loop-place.place s _ below c.loop-place.invariant.sized c.index-found-place.is (search rules);
+      sized = sized_more (told_all before.attached) c.args.asked c.args.lengths.now c.args.found.now c.loop-place.found c.loop-place.place s _ below c.loop-place.invariant.sized c.index-found-place.is (search rules);
       alike = alike_more c.args.found.now c.loop-place.found c.loop-place.place s _ c.loop-place.invariant.alike c.index-found-place.is (search rules);
       later = later_more c.args.found.now c.loop-place.found c.loop-place.place _ c.loop-place.invariant.later;
-      reads = one_sized before (g.I.Images.seen c.loop-place.images) (g.I.Images.seen c.sized.new.images) c.args.lengths.now c.args.found.now c.loop-place.place s below there c.loop-place.invariant.reads c.sized.ensures.reads;
+      reads = one_sized before (g.I.Images.seen c.loop-place.images) (g.I.Images.seen c.sized.new.images) c.args.asked c.args.lengths.now c.args.found.now c.loop-place.place s below there c.loop-place.invariant.reads c.sized.ensures.reads;
       stays = let now : (g.I.Images.seen c.sized.new.images).faults ≡ (g.I.Images.seen c.loop-place.images).faults = search rules in now ∙ c.loop-place.invariant.stays;
     }
 
@@ -42,12 +42,12 @@ returns-in_err-found-clause-reads g c =
     let s = c.index-found-place.result in
     let long = alike_long c.args.found.now c.loop-place.found c.loop-place.invariant.alike in
     let there = later_at c.args.found.now c.loop-place.found c.loop-place.place s c.loop-place.invariant.later c.index-found-place.is in
-    some_sized before (g.I.Images.seen c.sized.new.images) c.args.lengths.now c.args.found.now (c.loop-place.place + 1)
-    (one_sized before (g.I.Images.seen c.loop-place.images) (g.I.Images.seen c.sized.new.images) c.args.lengths.now c.args.found.now c.loop-place.place s (omega arith) there c.loop-place.invariant.reads c.sized.ensures.reads)
+    some_sized before (g.I.Images.seen c.sized.new.images) c.args.asked c.args.lengths.now c.args.found.now (c.loop-place.place + 1)
+    (one_sized before (g.I.Images.seen c.loop-place.images) (g.I.Images.seen c.sized.new.images) c.args.asked c.args.lengths.now c.args.found.now c.loop-place.place s (omega arith) there c.loop-place.invariant.reads c.sized.ensures.reads)
 
 pub returns-clause-sized : goal.returns-clause-sized
 returns-clause-sized g c =
-    sized_all (told_all (g.I.Images.seen c.args.images.now).attached) c.args.lengths.now c.args.found.now c.loop-place.found c.loop-place.place (omega arith) c.loop-place.invariant.sized
+    sized_all (told_all (g.I.Images.seen c.args.images.now).attached) c.args.asked c.args.lengths.now c.args.found.now c.loop-place.found c.loop-place.place (omega arith) c.loop-place.invariant.sized
 
 pub returns-clause-reads : goal.returns-clause-reads
-returns-clause-reads g c = some_sized (g.I.Images.seen c.args.images.now) (g.I.Images.seen c.loop-place.images) c.args.lengths.now c.args.found.now c.loop-place.place c.loop-place.invariant.reads
+returns-clause-reads g c = some_sized (g.I.Images.seen c.args.images.now) (g.I.Images.seen c.loop-place.images) c.args.asked c.args.lengths.now c.args.found.now c.loop-place.place c.loop-place.invariant.reads

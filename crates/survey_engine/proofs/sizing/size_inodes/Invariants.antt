@@ -9,9 +9,9 @@ use Rattle.survey_engine.proofs.sizing.size_inodes.Given as goal
 
 abbrev pub invariant-loop-place : goal.invariant-loop-place
 invariant-loop-place g l = record {
-  sized : SizedTo (told_all (g.I.Images.seen l.fn.images).attached) l.lengths l.fn.found l.place l.found;
+  sized : SizedTo (told_all (g.I.Images.seen l.fn.images).attached) l.asked l.lengths l.fn.found l.place l.found;
   alike : map bare l.found ≡ map bare l.fn.found;
   later : drop l.place l.found ≡ drop l.place l.fn.found;
-  reads : OnlyReads (g.I.Images.seen l.fn.images) (g.I.Images.seen l.images) (4 * count_by (has_run l.lengths) (take l.place l.fn.found));
+  reads : OnlyReads (g.I.Images.seen l.fn.images) (g.I.Images.seen l.images) (4 * count_by (has_run l.asked l.lengths) (take l.place l.fn.found));
   stays : (g.I.Images.seen l.images).faults ≡ (g.I.Images.seen l.fn.images).faults;
 }

@@ -4,7 +4,7 @@ ghost use Rattle.image_source.specs.Memory.{seen_of};
 ghost use Rattle.survey_engine.specs.Surveys.{IsAsk};
 
 use crate::objects::four_images;
-use crate::xfs_sectors::{LARGE, LARGE_SUPER, LATER, NEXT, ROOT, SUPER};
+use crate::xfs_sectors::{LARGE, LARGE_SUPER, LARGEST, LARGEST_SUPER, LATER, NEXT, ROOT, SUPER};
 use arrayvec::ArrayVec;
 use image_source::MemImages;
 use landmark_rules::{GroupKind, Kind, Mark, MarkTests, Rule};
@@ -683,6 +683,49 @@ fn larger_inodes_of_xfs_are_marks(rt: HostRuntime) -> Result<(), Fail> {
     assert!(rt; has_large_marks(&rt, [(20, LARGE_INODE), (21, byte)], &[])?);
     assert!(rt; has_large_marks(&rt, [(396, LARGE_INODE), (8, nothing)], &[last])?);
     assert!(rt; has_large_marks(&rt, [(397, LARGE_INODE), (8, nothing)], &[])?);
-    assert!(rt; has_large_marks(&rt, [(20, &[(0, &ROOT)]), (22, nothing)], &[])?);
+    Ok(())
+}
+
+// The marks among inodes of XFS in one sector beside a superblock.
+fn has_marks_beside<R: Abort + AllocGlobal>(
+    rt: &R,
+    superblock: &'static [Field],
+    inode: &'static [Field],
+    lines: &[Line],
+) -> Result<bool, Fail> {
+    let there = [(9, superblock), (20, inode)];
+    let plan = plan_of_fields(rt, &there, Kinds::among(&[GroupKind::Xfs5]))?;
+    Ok(plan.groups.as_slice().len() == 1 && is_group(&plan, 0, GroupKind::Xfs5, lines))
+}
+
+// The number 163,936 is 32 more than a multiple of 64: of the largest inodes 32 fill a stretch of 64 KiB.
+#[test]
+fn the_largest_inodes_of_xfs_are_marks(rt: HostRuntime) -> Result<(), Fail> {
+    let mark = (Kind::Xfs5, 0, 20, Rule::At(541_056));
+    let largest: &[Field] = &[(0, &LARGEST_SUPER)];
+    assert!(rt; has_marks_beside(&rt, largest, &[(0, &LARGEST)], &[mark])?);
+    let turned: &[Field] = &[(0, &LARGEST), (2_047, &[1])];
+    assert!(rt; has_marks_beside(&rt, largest, turned, &[])?);
+    Ok(())
+}
+
+// The identifiers of the first and of the second file system.
+const FIRST: [u8; 16] = [
+    0x8b, 0x1f, 0x2c, 0x63, 0x5d, 0x0e, 0x4b, 0x7a, 0x9c, 0x41, 0x0e, 0x6f, 0x7a, 0x2d, 0x91, 0x35,
+];
+
+const SECOND: [u8; 16] = [
+    0x01, 0x23, 0x45, 0x67, 0x89, 0xab, 0xcd, 0xef, 0x01, 0x23, 0x45, 0x67, 0x89, 0xab, 0xcd, 0xef,
+];
+
+// The superblock has the inode's identifier, and the group and block of its number, which begins a stretch there too.
+#[test]
+fn inodes_of_another_size_are_no_marks(rt: HostRuntime) -> Result<(), Fail> {
+    let small: &[Field] = &[(0, &SUPER), (32, &SECOND)];
+    let large: &[Field] = &[(0, &LARGE_SUPER), (32, &FIRST)];
+    let largest: &[Field] = &[(0, &LARGEST_SUPER), (32, &FIRST)];
+    assert!(rt; has_marks_beside(&rt, small, LARGE_INODE, &[])?);
+    assert!(rt; has_marks_beside(&rt, large, &[(0, &ROOT)], &[])?);
+    assert!(rt; has_marks_beside(&rt, largest, &[(0, &ROOT)], &[])?);
     Ok(())
 }

@@ -8,10 +8,10 @@ the highest LEAST with which any set passes, where that is the bound of the grou
 counts where the true set passes then, and each other one puts every data chunk that is there where the true one does: of what is lost no landmark
 on an image says anything, so `n-continue` with its slots turned by one, which is `ls` with P and Q exchanged, cannot be told from it.
 
-Usage: bench/measuring/landmarks.py PROGRAM [--folder DIR] [--mebibytes N] [--disks] [WORD..]
+Usage: bench/measuring/landmarks.py PROGRAM [--folder DIR] [--mebibytes N] [--files N] [--disks] [WORD..]
 Needs root, for loop mounts, and the Debian packages e2fsprogs, xfsprogs and btrfs-progs; for volumes of 2,048 MiB, which is what is usual, 11 GiB
-in the folder. With words only the arrays in whose names all of them stand; with --disks they are made, and not looked at. The last line
-counts them; the status is 0 where all count.
+in the folder. In each round N files are written for each MiB, 2 where nothing is said, and a part of them is deleted again. With words only the
+arrays in whose names all of them stand; with --disks they are made, and not looked at. The last line counts them; the status is 0 where all count.
 """
 
 import argparse
@@ -115,18 +115,19 @@ def mounted(volume: pathlib.Path) -> Iterator[pathlib.Path]:
         place.rmdir()
 
 
-def round_of_use(place: pathlib.Path, drawn: random.Random, number: int, mebibytes: int) -> None:
-    """Writes, deletes, overwrites, lengthens and shortens files, so that the volume is in the end about half full."""
+def round_of_use(place: pathlib.Path, drawn: random.Random, number: int, mebibytes: int, files_each: int) -> None:
+    """Writes, deletes, overwrites, lengthens and shortens files, of which so many are written for each MiB, so that the volume is in the end about
+    half full."""
     noise = drawn.randbytes(1 << 22)
 
     def some(most: int) -> bytes:
         size = drawn.randint(1, most)
         start = drawn.randrange(len(noise) - most)
         return noise[start:start + size]
-    for count in range(2 * mebibytes):
+    for count in range(files_each * mebibytes):
         folder = place / f"folder{drawn.randrange(60):02}"
         folder.mkdir(exist_ok=True)
-        (folder / f"letter{number}-{count}").write_bytes(some(40_000))
+        (folder / f"letter{number}-{count}").write_bytes(some(80_000 // files_each))
     for count in range(mebibytes // 70):
         with open(place / f"film{number}-{count}", "wb") as film:
             for _ in range(drawn.randint(1, 4)):
@@ -145,7 +146,7 @@ def round_of_use(place: pathlib.Path, drawn: random.Random, number: int, mebibyt
                 file.truncate(path.stat().st_size // 2)
 
 
-def used_volume(system: str, folder: pathlib.Path, mebibytes: int) -> pathlib.Path:
+def used_volume(system: str, folder: pathlib.Path, mebibytes: int, files_each: int) -> pathlib.Path:
     """A volume with a file system that was used, made where it is not there yet."""
     volume = folder / f"{system}.volume"
     if volume.exists():
@@ -156,7 +157,7 @@ def used_volume(system: str, folder: pathlib.Path, mebibytes: int) -> pathlib.Pa
     drawn = random.Random(system)
     for number in range(5):
         with mounted(volume) as place:
-            round_of_use(place, drawn, number, mebibytes)
+            round_of_use(place, drawn, number, mebibytes, files_each)
     return volume
 
 
@@ -269,6 +270,7 @@ def read_arguments() -> argparse.Namespace:
     parser.add_argument("words", nargs="*")
     parser.add_argument("--folder", type=pathlib.Path)
     parser.add_argument("--mebibytes", type=int, default=2048)
+    parser.add_argument("--files", type=int, default=2)
     parser.add_argument("--disks", action="store_true")
     return parser.parse_intermixed_args()
 
@@ -280,7 +282,7 @@ def counted(given: argparse.Namespace, folder: pathlib.Path) -> int:
     for array in wanted:
         place = pathlib.Path(tempfile.mkdtemp(prefix="array-", dir=folder))
         try:
-            made = made_array(array, used_volume(array.system, folder, given.mebibytes), place)
+            made = made_array(array, used_volume(array.system, folder, given.mebibytes, given.files), place)
             if given.disks:
                 print(f"made {array.name()}: {made.word}", flush=True)
             elif not tried(given.program, array, made):

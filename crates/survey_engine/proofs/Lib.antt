@@ -3,6 +3,7 @@ pub mod Reading
 pub mod Advancing
 pub mod FourthByte
 pub mod Landmarks
+pub mod Plain
 pub mod Rules
 pub mod Order
 pub mod Rows

@@ -1,8 +1,9 @@
 //! What a sector may be.
-ghost use Rattle.std.specs.Prelude.{◌≡◌, ◌<◌, ◌^◌, IfSome, IsTrue, slice_index};
+ghost use Rattle.std.specs.Prelude.{◌≡◌, ◌≢◌, ℕ, ◌<◌, ◌^◌, false, None, IfSome, IsTrue, slice_index};
 ghost use Rattle.gpt_marks.specs.Header.{gpt_header, IsUnit};
 ghost use Rattle.more_marks.specs.Btrfs.{btrfs_super, is_super_address};
-ghost use Rattle.btrfstree.specs.Header.{tree_block};
+ghost use Rattle.btrfstree.specs.Header.{is_block, tree_block};
+ghost use Rattle.inode_marks.specs.Inode.{has_extra};
 ghost use Rattle.survey_engine.specs.Landmarks.{front_in, has_inodes, head_in, inner_in, inode_in, is_asked, kind_of, landmark_in, last_in, is_own, record_or_label_in, start_in, super_in, super_of, table_in, untold, IsSound};
 
 use btrfstree::{TreeBlock, read_block};
@@ -13,10 +14,21 @@ use landmark_rules::Kind;
 use mark_kinds::Kinds;
 use more_marks::{BtrfsSuper, read_btrfs, read_lvm};
 use ntfs_marks::{NtfsBoot, NtfsRecord, read_boot, read_record};
-use sector_fields::{DISTANCE_LIMIT, SECTOR};
+use sector_fields::{DISTANCE_LIMIT, SECTOR, u16_le, u64_le};
 use uuid::Uuid;
 use xfs_marks::{XfsGroup, XfsSuper, read_group, read_super};
 use xfs5::{XfsInode, XfsInodes, read_inode, read_inodes, read_start};
+
+/// The version of an inode of XFS that tells its number.
+const INODE_VERSION: u8 = 3;
+
+/// The number that marks a superblock of ext.
+const EXT_MAGIC: u16 = 0xEF53;
+
+/// An inode of ext4 that has its number in its checksum uses so many bytes of its second half, at least and at most.
+const LEAST_EXTRA: u16 = 4;
+
+const MOST_EXTRA: u16 = 128;
 
 /// The bytes of the smallest inodes of XFS: such an inode stands in one sector.
 const SMALLEST: u16 = 512;
@@ -112,6 +124,9 @@ pub fn read_landmark(sector: &[u8; SECTOR], unit: u64) -> Option<Landmark>
     ensures landmark { result ≡ landmark_in unit sector.now }
     ensures sound { IfSome result IsSound }
 {
+    if is_plain(sector) {
+        return None;
+    }
     match find_header(sector) {
         Some(header) => table_of(header, unit),
         None => match read_front(sector) {
@@ -121,6 +136,48 @@ pub fn read_landmark(sector: &[u8; SECTOR], unit: u64) -> Option<Landmark>
                 None => read_last(sector),
             },
         },
+    }
+}
+
+/// Whether a sector is no landmark by the few bytes that tell so of most sectors: byte 3, which says what it may be by its
+/// front; the version of an inode of XFS; and what copies of ext, superblocks and tree blocks of btrfs, and inodes of ext4
+/// begin with.
+#[tactic(auto, using(crate::proofs::Plain::none_in))]
+fn is_plain(sector: &[u8; SECTOR]) -> bool
+    ensures none { IsTrue result → (unit : ℕ) → landmark_in unit sector.now ≡ None }
+{
+    !is_front(sector[3])
+        && sector[4] != INODE_VERSION
+        && u16_le(sector, 56) != EXT_MAGIC
+        && sector[64] != b'_'
+        && is_no_block(sector)
+        && is_no_pair(sector)
+}
+
+/// Whether a sector is no tree block of btrfs by its address or its revision.
+#[tactic(auto, using(crate::proofs::Plain::no_address, crate::proofs::Plain::no_revision))]
+fn is_no_block(sector: &[u8; SECTOR]) -> bool
+    ensures { IsTrue result → is_block sector.now ≡ false }
+{
+    1 < sector[63] || u64_le(sector, 48) == 0
+}
+
+/// Whether a sector is no two inodes of ext4 by how much the first uses of its second half.
+#[tactic(auto, using(crate::proofs::Plain::few_extra, crate::proofs::Plain::most_extra))]
+fn is_no_pair(sector: &[u8; SECTOR]) -> bool
+    ensures { IsTrue result → has_extra sector.now 0 ≡ false }
+{
+    let extra = u16_le(sector, 128);
+    extra < LEAST_EXTRA || MOST_EXTRA < extra
+}
+
+/// Whether byte 3 of a sector is one that landmarks have which are told by their fronts.
+fn is_front(byte: u8) -> bool
+    ensures other { result ≡ false → (byte ≢ 32) × (byte ≢ 78) × (byte ≢ 69) × (byte ≢ 66) × (byte ≢ 70) × (byte ≢ 73) }
+{
+    match byte {
+        b' ' | b'N' | b'E' | b'B' | b'F' | b'I' => true,
+        _ => false,
     }
 }
 

@@ -18,7 +18,8 @@ use Rattle.row_parity.proofs.RowSums.{part_sum}
 use Rattle.member_regions.proofs.Sets.{row_length}
 use Rattle.member_regions.specs.Regions.{Room}
 use Rattle.member_regions.specs.ImageSums.{IsBlankAt, room_byte}
-use Rattle.parity_scan.specs.ImageSums.{held_byte, IsChunkRow, slots_column}
+use Rattle.parity_scan.specs.ChunkRows.{IsChunkRow}
+use Rattle.parity_scan.specs.ImageSums.{held_byte, slots_column}
 use Rattle.parity_scan.specs.declared.left_out.ChunkRow.{ChunkRow}
 
 -- what adds nothing where the byte is 0

@@ -1,17 +1,21 @@
 -- The rows of a set over a block of image sectors.
-use Rattle.std.proofs.Common.{◌≡◌, ℕ, ◌+◌, ◌*◌, ◌/◌, ◌<◌, ◌≤◌, Bool, true, false, not, cond, List, [], length, get_or, take, refl, sym, ap, ◌∙◌, arith, add-one, Option, Some, None}
+use Rattle.std.proofs.Common.{◌≡◌, ℕ, ◌+◌, ◌*◌, ◌<◌, ◌≤◌, Bool, true, false, not, cond, List, length, get_or, take, refl, sym, ap, ◌∙◌, arith, add-one, Option, Some, None, IfSome, Fits, w8, subst}
 use Rattle.std.proofs.lemmas.List.{get_or-take}
 use Rattle.std.specs.Option.{is_none}
 use Rattle.raid_params.specs.declared.types.Cell.{Cell}
 use Rattle.raid_params.specs.declared.types.Geometry.{Geometry}
 use Rattle.raid_terms.specs.Cells.{row_cells}
-use Rattle.raid_terms.specs.Parity.{column_of, is_sound, is_sound_row, member_byte, member_column, unsound_rows}
+use Rattle.raid_terms.specs.Parity.{column_of, is_sound, is_sound_row, unsound_rows}
 use Rattle.member_regions.specs.Regions.{Room}
 use Rattle.member_regions.proofs.Alike.{filled_alike}
 use Rattle.member_regions.proofs.Counting.{count_suc, count_grows}
 use Rattle.member_regions.proofs.Sets.{row_length}
-use Rattle.parity_scan.specs.ImageRows.{HoldsSet}
-use Rattle.parity_scan.specs.declared.runs.Run.{Run}
+use Rattle.member_regions.specs.ImageSums.{room_byte}
+use Rattle.row_parity.proofs.Soundness.{HasBytes}
+use Rattle.std.specs.Bool.{Decides}
+use Rattle.std.proofs.lemmas.Bool.Decides.{same_from_decides}
+use Rattle.parity_scan.specs.Equations.{AreBytesAt, DecideRow, IsMet}
+use Rattle.parity_scan.specs.ImageSums.{held_byte, slots_column}
 use Rattle.parity_scan.proofs.Columns.{sound_alike}
 
 -- the sectors of a set's images were copied into a row
@@ -19,25 +23,29 @@ abbrev pub IsCopied : Geometry → Room → ℕ → ℕ → List ℕ → Type 0
 IsCopied geo room place n row = (slot image x : ℕ) → slot < n → get_or geo.slots.items slot None ≡ Some image → x < 512 →
     get_or row (512 * slot + x) 0 ≡ get_or room.bytes (room.stride * image + (512 * place + x)) 0
 
-copied_byte : (images : List (List ℕ)) (geo : Geometry) (run : Run) (room : Room) (row : List ℕ) (place t slot x : ℕ) (held : Option ℕ) →
-    HoldsSet images run room geo → IsCopied geo room place (length geo.slots.items) row → place < run.count → geo.head.offset + t ≡ run.first + place →
-    slot < length geo.slots.items → x < 512 → get_or geo.slots.items slot None ≡ held → is_none held ≡ false →
-    get_or row (512 * slot + x) 0 ≡ member_byte images geo.head.offset t x held
-copied_byte images geo run room row place t slot x None hold copied below at within inside is there = absurd (cc)
-copied_byte images geo run room row place t slot x (Some image) hold copied below at within inside is there =
-    let same : 512 * run.first + (512 * place + x) ≡ 512 * (geo.head.offset + t) + x = omega arith in
-    copied slot image x within is inside ∙ hold slot image is (512 * place + x) (omega arith) ∙ ap (λ k. get_or (get_or images image []) k 0) same
+copied_held : (geo : Geometry) (room : Room) (row : List ℕ) (place slot x : ℕ) (held : Option ℕ) → IsCopied geo room place (length geo.slots.items) row →
+    slot < length geo.slots.items → x < 512 → get_or geo.slots.items slot None ≡ held → is_none held ≡ false → get_or row (512 * slot + x) 0 ≡ held_byte (room_byte room (512 * place + x)) held
+copied_held geo room row place slot x None copied within inside is there = absurd (cc)
+copied_held geo room row place slot x (Some image) copied within inside is there = copied slot image x within is inside
 
--- a row that was copied is that of the array
-pub copied_sound : (images : List (List ℕ)) (geo : Geometry) (run : Run) (room : Room) (row : List ℕ) (place t : ℕ) (cells : List Cell) →
-    HoldsSet images run room geo → IsCopied geo room place (length geo.slots.items) row → place < run.count → geo.head.offset + t ≡ run.first + place →
-    cells ≡ row_cells geo (t / geo.head.chunk) → is_sound cells (column_of (length cells) row) ≡ is_sound_row images geo t
-copied_sound images geo run room row place t cells hold copied below at are =
-    ap (λ (n : ℕ). is_sound cells (column_of n row)) (row_length geo (t / geo.head.chunk) cells are)
+-- a row that was copied is sound where the sectors at its place are
+pub copied_sound : (geo : Geometry) (room : Room) (row : List ℕ) (place at : ℕ) (cells : List Cell) → IsCopied geo room place (length geo.slots.items) row → cells ≡ row_cells geo at →
+    is_sound cells (column_of (length cells) row) ≡ is_sound cells (slots_column room geo.slots.items place)
+copied_sound geo room row place at cells copied are =
+    ap (λ (n : ℕ). is_sound cells (column_of n row)) (row_length geo at cells are)
     ∙ ap (λ (cs : List Cell). is_sound cs (column_of (length geo.slots.items) row)) are
-    ∙ sound_alike (row_cells geo (t / geo.head.chunk)) (column_of (length geo.slots.items) row) (member_column images geo t)
-    (λ x inside. filled_alike (member_byte images geo.head.offset t x) (λ i. get_or row (512 * i + x) 0) geo.head (t / geo.head.chunk) 0 0 geo.slots.items
-    (λ i within there. let here : 0 + i ≡ i = omega arith in rw here (copied_byte images geo run room row place t i x (get_or geo.slots.items i None) hold copied below at within inside refl there)))
+    ∙ sound_alike (row_cells geo at) (column_of (length geo.slots.items) row) (slots_column room geo.slots.items place)
+    (λ x inside. filled_alike (held_byte (room_byte room (512 * place + x))) (λ i. get_or row (512 * i + x) 0) geo.head at 0 0 geo.slots.items
+    (λ i within there. let here : 0 + i ≡ i = omega arith in rw here (copied_held geo room row place i x (get_or geo.slots.items i None) copied within inside refl there)))
+    ∙ ap (λ (cs : List Cell). is_sound cs (slots_column room geo.slots.items place)) (sym are)
+
+-- its sectors are bytes
+pub copied_bytes : (geo : Geometry) (room : Room) (row : List ℕ) (place : ℕ) → IsCopied geo room place (length geo.slots.items) row → HasBytes row → AreBytesAt room geo.slots.items place
+copied_bytes geo room row place copied bytes = λ slot image x within is inside.
+    subst (λ (b : ℕ). b < 256) (copied slot image x within is inside) (byte (get_or row (512 * slot + x) 0) (bytes (512 * slot + x)))
+  where
+    byte : (b : ℕ) → Fits w8 b → b < 256
+    byte b h = omega arith
 
 -- one more row
 pub unsound_next : (images : List (List ℕ)) (geo : Geometry) (t : ℕ) → unsound_rows images geo (t + 1) ≡ unsound_rows images geo t + cond (not (is_sound_row images geo t)) 1 0
@@ -65,3 +73,28 @@ next_unsound images geo t sound is fails =
 -- the prefix of a row
 pub copied_front : (geo : Geometry) (room : Room) (place n : ℕ) (row : List ℕ) → IsCopied geo room place n row → IsCopied geo room place n (take (512 * n) row)
 copied_front geo room place n row copied = λ slot image x within is inside. get_or-take (512 * n) row (512 * slot + x) 0 (omega arith) ∙ copied slot image x within is inside
+
+-- what a test of a copied row says
+pub held_sound : (geo : Geometry) (room : Room) (row : List ℕ) (place at : ℕ) (cells same : List Cell) (held : Bool) → IsCopied geo room place (length geo.slots.items) row → cells ≡ row_cells geo at → same ≡ cells →
+    held ≡ is_sound same (column_of (length same) (take (512 * length same) row)) → held ≡ is_sound cells (slots_column room geo.slots.items place)
+held_sound geo room row place at cells same held copied are alike is =
+    let long : length same ≡ length geo.slots.items = row_length geo at same (alike ∙ are) in
+    let front = subst (λ (n : ℕ). IsCopied geo room place (length geo.slots.items) (take (512 * n) row)) (sym long) (copied_front geo room place (length geo.slots.items) row copied) in
+    is ∙ copied_sound geo room (take (512 * length same) row) place at same front (alike ∙ are) ∙ ap (λ (cs : List Cell). is_sound cs (slots_column room geo.slots.items place)) alike
+
+-- the equation that decides it says the same
+decided : (cells : List Cell) (slots : List (Option ℕ)) (asked : Option (List ℕ)) (factors : List ℕ) → IfSome asked (DecideRow cells slots) → asked ≡ Some factors → DecideRow cells slots factors
+decided cells slots asked factors decides is = subst (λ (o : Option (List ℕ)). IfSome o (DecideRow cells slots)) is decides
+
+pub told_sound : (geo : Geometry) (room : Room) (row : List ℕ) (place : ℕ) (cells : List Cell) (asked : Option (List ℕ)) (factors : List ℕ) (told : Option Bool) (sound : Bool) →
+    IsCopied geo room place (length geo.slots.items) row → HasBytes row → IfSome asked (DecideRow cells geo.slots.items) → asked ≡ Some factors →
+    IfSome told (λ met. Decides met (IsMet room place factors)) → told ≡ Some sound → sound ≡ is_sound cells (slots_column room geo.slots.items place)
+told_sound geo room row place cells asked factors told sound copied bytes decides is said there =
+    same_from_decides sound (is_sound cells (slots_column room geo.slots.items place)) (subst (λ (o : Option Bool). IfSome o (λ met. Decides met (IsMet room place factors))) there said)
+    (decided cells geo.slots.items asked factors decides is room place (copied_bytes geo room row place copied bytes))
+
+pub tested_met : (geo : Geometry) (room : Room) (row : List ℕ) (place : ℕ) (cells : List Cell) (asked : Option (List ℕ)) (factors : List ℕ) (sound : Bool) →
+    IsCopied geo room place (length geo.slots.items) row → HasBytes row → IfSome asked (DecideRow cells geo.slots.items) → asked ≡ Some factors →
+    sound ≡ is_sound cells (slots_column room geo.slots.items place) → Decides sound (IsMet room place factors)
+tested_met geo room row place cells asked factors sound copied bytes decides is holds =
+    subst (λ (b : Bool). Decides b (IsMet room place factors)) (sym holds) (decided cells geo.slots.items asked factors decides is room place (copied_bytes geo room row place copied bytes))

@@ -11,6 +11,7 @@ pub mod Settled
 pub mod Sweeps
 pub mod Judging
 pub mod ImageSums
+pub mod Factors
 pub mod WholeRows
 pub mod BlankRows
 pub mod Marked

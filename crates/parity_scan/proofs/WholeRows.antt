@@ -16,7 +16,8 @@ use Rattle.member_regions.specs.Members.{IsTestable}
 use Rattle.member_regions.specs.Regions.{Room}
 use Rattle.parity_scan.specs.ImageRows.{HoldsSet}
 use Rattle.member_regions.specs.ImageSums.{room_byte}
-use Rattle.parity_scan.specs.ImageSums.{AddsAllBut, held_byte, IsChunkRow, IsWhole, slots_column}
+use Rattle.parity_scan.specs.ChunkRows.{IsChunkRow}
+use Rattle.parity_scan.specs.ImageSums.{AddsAllBut, held_byte, IsWhole, slots_column}
 use Rattle.parity_scan.specs.declared.left_out.ChunkRow.{ChunkRow}
 use Rattle.parity_scan.specs.declared.left_out.LeftOut.{LeftOut}
 use Rattle.parity_scan.specs.declared.runs.Run.{Run}
@@ -117,4 +118,4 @@ told_row geo n place room row out holds set is there bytes p free =
 
 -- a chunk row by its own number
 pub row_itself : (geo : Geometry) (n at : ℕ) (row : ChunkRow) → IsChunkRow geo n at row → IsChunkRow geo n row.at row
-row_itself geo n at row is = record { place = refl; cells = is.cells ∙ ap (row_cells geo) (sym is.place); within = is.within; whole = is.whole; but = is.but }
+row_itself geo n at row is = record { place = refl; cells = is.cells ∙ ap (row_cells geo) (sym is.place); within = is.within; whole = is.whole; but = is.but; factors = is.factors }

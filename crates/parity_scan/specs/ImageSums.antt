@@ -1,19 +1,16 @@
 -- P's test of the rows of a run, by the exclusive or of the sectors of all images.
-use Rattle.std.specs.Prelude.{ℕ, zero, suc, ◌≡◌, ◌<◌, ◌≤◌, ◌+◌, ◌*◌, Bool, true, false, bit_xor, if◌then◌else◌, List, map, slice_index_or, IfSome, IsSomeAnd, All}
+use Rattle.std.specs.Prelude.{ℕ, zero, suc, ◌≡◌, ◌<◌, ◌≤◌, ◌+◌, ◌*◌, Bool, true, false, bit_xor, if◌then◌else◌, List, map, slice_index_or, IsSomeAnd, All}
 use Rattle.std.specs.declared.option.Option.{Option}
 use Rattle.std.specs.declared.option.Option.TheVariants.{None, Some}
 use Rattle.member_regions.specs.declared.regions.TheConstants.{BLOCK}
 use Rattle.raid_params.specs.declared.limits.TheConstants.{MOST}
 use Rattle.raid_params.specs.declared.types.Cell.{Cell}
-use Rattle.raid_params.specs.declared.types.Geometry.{Geometry}
-use Rattle.raid_terms.specs.Cells.{row_cells}
 use Rattle.raid_terms.specs.Parity.{has_p, in_p}
 use Rattle.row_parity.specs.LostBytes.{first_missing}
 use Rattle.row_parity.specs.Syndromes.{known_sum}
 use Rattle.member_regions.specs.ImageSums.{all_sum, room_byte, SumImages}
 use Rattle.member_regions.specs.Regions.{Room}
 use Rattle.parity_scan.specs.declared.image_sums.ImageSums.{ImageSums}
-use Rattle.parity_scan.specs.declared.left_out.ChunkRow.{ChunkRow}
 use Rattle.parity_scan.specs.declared.left_out.LeftOut.{LeftOut}
 use Rattle.parity_scan.specs.declared.left_out.LeftOut.TheVariants.{Nobody, One}
 
@@ -52,11 +49,3 @@ pub record IsWhole (cells : List Cell) (slots : List (Option ℕ)) (n : ℕ) : T
   pub p : has_p cells ≡ true
   pub there : first_missing cells ≡ None
   pub held : All (λ slot. IsSomeAnd slot (λ image. image < n)) slots
-
--- the cells of a chunk row of a set, and what P's equation leaves out there, where that is known
-pub record IsChunkRow (geo : Geometry) (n at : ℕ) (row : ChunkRow) : Type 0 where
-  pub place : row.at ≡ at
-  pub cells : row.cells.items ≡ row_cells geo at
-  pub within : row.within ≡ true → All (λ slot. IfSome slot (λ image. image < n)) geo.slots.items
-  pub whole : IfSome row.out (λ out. IsWhole row.cells.items geo.slots.items n)
-  pub but : IfSome row.out (AddsAllBut row.cells.items geo.slots.items n)

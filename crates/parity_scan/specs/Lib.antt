@@ -8,3 +8,5 @@ pub mod Samples
 pub mod Pass
 pub mod Wanted
 pub mod ImageSums
+pub mod Equations
+pub mod ChunkRows

@@ -1,21 +1,25 @@
 //! The rows of a set over a block of image sectors.
 ghost use Rattle.std.specs.Prelude.{ℕ, List, ◌≡◌, ◌+◌, ◌-◌, ◌*◌, ◌/◌, ◌^◌, ◌<◌, ◌≤◌, ◌&&◌, length, slice_index, slice_index_or, All, IfSome, None, Some};
 ghost use Rattle.raid_terms.specs.Cells.{row_cells as cells_of_row};
-ghost use Rattle.raid_terms.specs.Parity.{has_q as has_q_of, is_sound, is_sound_row, IsRow};
+ghost use Rattle.raid_terms.specs.Parity.{has_q as has_q_of, is_sound, is_sound_row};
 ghost use Rattle.raid_params.specs.declared.limits.TheConstants.{MOST};
 ghost use Rattle.member_regions.specs.Members.{IsTestable};
 ghost use Rattle.member_regions.specs.declared.regions.TheConstants.{BLOCK};
 ghost use Rattle.member_regions.specs.Regions.{IsRoomFor, Room};
+ghost use Rattle.parity_scan.specs.Equations.{AreKnown, DecideRow};
 ghost use Rattle.parity_scan.specs.ImageRows.{asks as asks_for, rows_of as tested, rows_before as tested_before, AddsRun, HoldsSet, IsLeftAfter};
-ghost use Rattle.parity_scan.specs.ImageSums.{AreImageSums, IsChunkRow, slots_column};
+ghost use Rattle.parity_scan.specs.ChunkRows.{IsChunkRow};
+ghost use Rattle.parity_scan.specs.ImageSums.{AreImageSums, slots_column};
 
+use crate::equations::has_q;
 use crate::image_sums::ImageSums;
+use crate::known_rows::KnownRows;
 use crate::left_out::{ChunkRow, chunk_row, turn_row};
 use crate::runs::Run;
 use crate::tally::Tally;
 use member_regions::Regions;
 use outside::SECTOR;
-use raid_params::{Cell, Geometry, MOST, Part};
+use raid_params::{Cell, Geometry, MOST};
 use row_parity::row_holds;
 use search_scope::{Scope, tested_rows};
 
@@ -50,8 +54,8 @@ pub fn asks(scope: &Scope, geo: &Geometry, tally: Tally, run: Run) -> bool
         && rows_before(scope, geo, run.first) < rows_before(scope, geo, run.first + run.count)
 }
 
-/// A tally after the rows of its set in a run. The regions hold the run's sectors, one region an image. `room` is room for
-/// a row.
+/// A tally after the rows of its set in a run. The regions hold the run's sectors, one region an image. What is known of rows
+/// is asked and added to. `room` is room for a row.
 pub fn tally_after(
     scope: &Scope,
     geo: &Geometry,
@@ -59,16 +63,19 @@ pub fn tally_after(
     regions: &Regions,
     sums: &ImageSums,
     run: Run,
+    known: &mut KnownRows,
     room: &mut [u8],
 ) -> Tally
     requires set { IsTestable geo.now }
     requires offset { geo.now.head.offset < 2 ^ 55 }
     requires images { All (λ slot. IfSome slot (λ image. image < regions.now.members)) geo.now.slots.items }
     requires sums { AreImageSums regions.now sums.now }
+    requires known { AreKnown regions.now known.old }
     requires run { run.first + run.count < 2 ^ 55 }
     requires held { 512 * run.count ≤ regions.now.stride }
     requires room { length room.old ≡ ROW }
     ensures adds { AddsRun scope.now geo.now run regions.now tally result }
+    ensures known { AreKnown regions.now known.new }
     ensures room { length room.new ≡ ROW }
 {
     let Tally::Left(left) = tally else {
@@ -79,7 +86,7 @@ pub fn tally_after(
     }
     let from = rows_before(scope, geo, run.first);
     let to = rows_before(scope, geo, run.first + run.count);
-    rows_left_after(geo, regions, sums, run, from, to, left, room)
+    rows_left_after(geo, regions, sums, run, from, to, left, known, room)
 }
 
 /// The tally after the rows from one up to another, where `left` may be unsound. It stops at the first row too many. `room`
@@ -93,6 +100,7 @@ fn rows_left_after(
     from: u64,
     to: u64,
     left: u64,
+    known: &mut KnownRows,
     room: &mut [u8],
 ) -> Tally
     requires set { IsTestable geo.now }
@@ -101,19 +109,27 @@ fn rows_left_after(
     requires sums { AreImageSums regions.now sums.now }
     requires run { run.first + run.count < 2 ^ 55 }
     requires held { 512 * run.count ≤ regions.now.stride }
+    requires known { AreKnown regions.now known.old }
     requires from { run.first ≤ geo.now.head.offset + from }
     requires to { geo.now.head.offset + to ≤ run.first + run.count }
     requires rows { from ≤ to }
     requires room { length room.old ≡ ROW }
     ensures left { (images : List (List ℕ)) → HoldsSet images run regions.now geo.now → IsLeftAfter images geo.now from to left result }
+    ensures known { AreKnown regions.now known.new }
     ensures room { length room.new ≡ ROW }
 {
-    let mut row = chunk_row(geo, from / geo.head.chunk, sums.images);
+    let mut row = chunk_row(geo, from / geo.head.chunk, sums.images, known.are_kept);
     let mut rest = left;
     for t in from..to {
-        turn_row(geo, &mut row, t / geo.head.chunk, sums.images);
+        turn_row(
+            geo,
+            &mut row,
+            t / geo.head.chunk,
+            sums.images,
+            known.are_kept,
+        );
         let place = geo.head.offset + t - run.first;
-        if !is_sound_at(geo, &row, regions, sums, place as usize, room) {
+        if !is_sound_at(geo, &row, regions, sums, place as usize, known, room) {
             if rest == 0 {
                 return Tally::Fails;
             }
@@ -131,22 +147,25 @@ fn is_sound_at(
     regions: &Regions,
     sums: &ImageSums,
     place: usize,
+    known: &mut KnownRows,
     room: &mut [u8],
 ) -> bool
     requires set { IsTestable geo.now }
     requires row { IsChunkRow geo.now sums.now.images row.now.at row.now }
     requires images { All (λ slot. IfSome slot (λ image. image < regions.now.members)) geo.now.slots.items }
     requires sums { AreImageSums regions.now sums.now }
+    requires known { AreKnown regions.now known.old }
     requires place { 512 * place + 512 ≤ regions.now.stride }
     requires room { length room.old ≡ ROW }
     ensures sound { (images : List (List ℕ)) (run : Run) (t : ℕ) → HoldsSet images run regions.now geo.now → place < run.count →
         geo.now.head.offset + t ≡ run.first + place → row.now.at ≡ t / geo.now.head.chunk → result ≡ is_sound_row images geo.now t }
+    ensures known { AreKnown regions.now known.new }
     ensures room { length room.new ≡ ROW }
 {
     if let Some(sound) = told_sound(row, sums, place) {
         return sound;
     }
-    is_row_sound(geo, &row.cells, regions, place, room)
+    is_row_sound(geo, row, regions, place, known, room)
 }
 
 /// Whether a row at a place is sound, where the sums decide it: all is zeros, or P's equation does not hold, or there is no
@@ -174,34 +193,40 @@ fn needs_q(holds: bool, cells: &[Cell]) -> bool
     holds && has_q(cells)
 }
 
-/// Whether a row has a Q.
-fn has_q(cells: &[Cell]) -> bool
-    ensures { result ≡ has_q_of cells.now }
-{
-    cells.iter().any(|cell| matches!(cell.part, Part::Q))
-}
-
-/// Whether the sectors number `place` of the regions of a set's images are a sound row of these cells. `room` is room for them.
-#[tactic(auto, using(member_regions::proofs::Sets::row_length))]
+/// Whether the sectors number `place` of the regions of a set's images are a sound row. Where it is known whether they meet
+/// the equation that decides it, they are not tested. `room` is room for them.
+#[tactic(auto, using(member_regions::proofs::Sets::row_length, member_regions::proofs::Sets::testable_row))]
 fn is_row_sound(
     geo: &Geometry,
-    cells: &[Cell],
+    row: &ChunkRow,
     regions: &Regions,
     place: usize,
+    known: &mut KnownRows,
     room: &mut [u8],
 ) -> bool
-    requires cells { IsRow cells.now }
-    requires slots { length cells.now ≡ length geo.now.slots.items }
+    requires set { IsTestable geo.now }
+    requires cells { row.now.cells.items ≡ cells_of_row geo.now row.now.at }
+    requires factors { IfSome row.now.factors (DecideRow row.now.cells.items geo.now.slots.items) }
     requires images { All (λ slot. IfSome slot (λ image. image < regions.now.members)) geo.now.slots.items }
     requires place { 512 * place + 512 ≤ regions.now.stride }
+    requires known { AreKnown regions.now known.old }
     requires room { length room.old ≡ ROW }
-    ensures sound { (images : List (List ℕ)) (run : Run) (t : ℕ) → HoldsSet images run regions.now geo.now → place < run.count →
-        geo.now.head.offset + t ≡ run.first + place → cells.now ≡ cells_of_row geo.now (t / geo.now.head.chunk) →
-        result ≡ is_sound_row images geo.now t }
+    ensures sound { result ≡ is_sound row.now.cells.items (slots_column regions.now geo.now.slots.items place) }
+    ensures known { AreKnown regions.now known.new }
     ensures room { length room.new ≡ ROW }
 {
+    let cells: &[Cell] = &row.cells;
     copy_row(geo, regions, place, room);
-    row_holds(cells, &room[..SECTOR * cells.len()])
+    let sectors = &room[..SECTOR * cells.len()];
+    let Some(factors) = &row.factors else {
+        return row_holds(cells, sectors);
+    };
+    if let Some(sound) = known.told(factors, place) {
+        return sound;
+    }
+    let sound = row_holds(cells, sectors);
+    known.note(factors, place, sound);
+    sound
 }
 
 /// Copies the sectors number `place` of the images of a set into a row, that of each slot to its place.

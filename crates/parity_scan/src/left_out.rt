@@ -1,11 +1,14 @@
 //! Which image P's equation leaves out in a row.
 ghost use Rattle.std.specs.Prelude.{ℕ, ◌≡◌, ◌<◌, ◌≤◌, ◌+◌, if◌then◌else◌, bit_xor, length, map, slice_index_or, All, Bool, IfSome, IsSomeAnd, IsTrue, List, false};
 ghost use Rattle.raid_params.specs.declared.limits.TheConstants.{MOST};
-ghost use Rattle.raid_terms.specs.Parity.{has_p as has_p_of, in_p};
+ghost use Rattle.raid_terms.specs.Parity.{has_p as has_p_of, in_p, IsRow};
 ghost use Rattle.row_parity.specs.Syndromes.{known_in, known_sum};
 ghost use Rattle.member_regions.specs.Members.{IsTestable};
-ghost use Rattle.parity_scan.specs.ImageSums.{AddsAllBut, held_byte, IsChunkRow, IsUnmarked, IsWhole, marked_sum};
+ghost use Rattle.parity_scan.specs.ChunkRows.{IsChunkRow};
+ghost use Rattle.parity_scan.specs.Equations.{DecideRow};
+ghost use Rattle.parity_scan.specs.ImageSums.{AddsAllBut, held_byte, IsUnmarked, IsWhole, marked_sum};
 
+use crate::equations::{Factors, row_factors};
 use arrayvec::ArrayVec;
 use raid_layouts::row_cells;
 use raid_params::{Cell, Geometry, MOST, Part};
@@ -31,11 +34,13 @@ pub struct ChunkRow {
     pub within: bool,
     /// Which of the images P's equation leaves out, where that is known.
     pub out: Option<LeftOut>,
+    /// The factors of the one equation that decides its rows, where they were asked for and there is one.
+    pub factors: Option<Factors>,
 }
 
-/// A chunk row of a set over the first `images` images.
-#[tactic(auto, using(member_regions::proofs::Sets::testable_head, member_regions::proofs::Sets::testable_slots, member_regions::proofs::Sets::row_length))]
-pub fn chunk_row(geo: &Geometry, at: u64, images: usize) -> ChunkRow
+/// A chunk row of a set over the first `images` images, with the factors of its equation where these are asked for.
+#[tactic(auto, using(member_regions::proofs::Sets::testable_head, member_regions::proofs::Sets::testable_slots, member_regions::proofs::Sets::testable_row, member_regions::proofs::Sets::row_length))]
+pub fn chunk_row(geo: &Geometry, at: u64, images: usize, with_factors: bool) -> ChunkRow
     requires set { IsTestable geo.now }
     requires images { images ≤ MOST }
     ensures { IsChunkRow geo.now images at result }
@@ -43,12 +48,26 @@ pub fn chunk_row(geo: &Geometry, at: u64, images: usize) -> ChunkRow
     let cells = row_cells(geo, at);
     let within = are_within(&geo.slots, images);
     let out = left_out(&cells, &geo.slots, images);
+    let factors = asked_factors(with_factors, &cells, &geo.slots);
     ChunkRow {
         at,
         cells,
         within,
         out,
+        factors,
     }
+}
+
+/// The factors of the one equation that decides a row, where they are asked for and there is one.
+fn asked_factors(are_asked: bool, cells: &[Cell], slots: &[Option<u8>]) -> Option<Factors>
+    requires cells { IsRow cells.now }
+    requires slots { length cells.now ≡ length slots.now }
+    ensures { IfSome result (DecideRow cells.now slots.now) }
+{
+    if !are_asked {
+        return None;
+    }
+    row_factors(cells, slots)
 }
 
 /// Whether slots hold none but the first `images` images.
@@ -69,14 +88,14 @@ fn is_within(held: Option<u8>, images: usize) -> bool
 }
 
 /// Makes a chunk row of a set another one of it, where it is not that already.
-pub fn turn_row(geo: &Geometry, row: &mut ChunkRow, at: u64, images: usize)
+pub fn turn_row(geo: &Geometry, row: &mut ChunkRow, at: u64, images: usize, with_factors: bool)
     requires set { IsTestable geo.now }
     requires images { images ≤ MOST }
     requires row { IsChunkRow geo.now images row.old.at row.old }
     ensures { IsChunkRow geo.now images at row.new }
 {
     if row.at != at {
-        *row = chunk_row(geo, at, images);
+        *row = chunk_row(geo, at, images, with_factors);
     }
 }
 

@@ -9,19 +9,22 @@
 //! no row of these is tested.
 //!
 //! Where many tallies are open, the exclusive or of the sectors of all images is formed once for each place of a run: it
-//! decides whether P's equation holds in the rows of every set whose P counts all images, or all but one.
+//! decides whether P's equation holds in the rows of every set whose P counts all images, or all but one. Where a few are open,
+//! a row that one equation alone decides is tested once for all sets that have the same equation there.
 //!
 //! [`unsound`] counts the unsound rows of one set: its members' sectors are read into the regions of `member_regions`, up
 //! to 128 KiB a call. [`nothing_can_break`] finds the sets that pass whatever the bytes.
 //!
 //! Which rows are tested stands in `Parity` of `raid_terms`, what is asked of a set in `specs/Scan`, the tallies in
 //! `specs/Tallies`, the verdicts in `specs/Verdicts`, the sectors that a scan may read in `specs/Windows`, the samples in
-//! `specs/Samples`, the rows of a run in `specs/ImageRows`, `specs/ImageSums` and `specs/Block`, and the pass in `specs/Pass` and
-//! `specs/Wanted`.
+//! `specs/Samples`, the rows of a run in `specs/ImageRows`, `specs/ImageSums`, `specs/ChunkRows`, `specs/Equations` and
+//! `specs/Block`, and the pass in `specs/Pass` and `specs/Wanted`.
 #![tactic(auto)]
 
+mod equations;
 mod image_rows;
 mod image_sums;
+mod known_rows;
 mod left_out;
 mod many_sets;
 mod one_set;

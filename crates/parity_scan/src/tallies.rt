@@ -1,13 +1,17 @@
 //! The tallies of many sets, in pieces.
-ghost use Rattle.std.specs.Prelude.{◌≡◌, ◌+◌, ◌*◌, ◌^◌, ◌<◌, ◌≤◌, length, All, IfSome};
+ghost use Rattle.std.specs.Prelude.{◌≡◌, ◌+◌, ◌*◌, ◌^◌, ◌<◌, ◌≤◌, count_by, length, nat_le, All, IfSome};
 ghost use Rattle.member_regions.specs.Members.{IsTestable};
-ghost use Rattle.member_regions.specs.Regions.{IsRoomFor};
+ghost use Rattle.member_regions.specs.Regions.{IsRoomFor, Room};
 ghost use Rattle.member_regions.specs.declared.regions.TheConstants.{BLOCK};
 ghost use Rattle.parity_scan.specs.ImageRows.{AddAll, IsTallied};
+ghost use Rattle.parity_scan.specs.Equations.{AreKnown};
 ghost use Rattle.parity_scan.specs.ImageSums.{AreImageSums};
+ghost use Rattle.parity_scan.specs.Tallies.{is_open};
+ghost use Rattle.parity_scan.specs.declared.tallies.TheConstants.{MANY};
 
 use crate::image_rows::{ROW, tally_after};
 use crate::image_sums::ImageSums;
+use crate::known_rows::KnownRows;
 use crate::runs::Run;
 use crate::scan_parts::{Scanned, Threading};
 use crate::tally::Tally;
@@ -57,8 +61,26 @@ pub fn add_run<R: Threads + Sync, G: Gate + Sync>(
 }
 
 /// Whether many tallies are open.
-fn are_many(tallies: &[Tally]) -> bool {
-    MANY <= tallies.iter().filter(|tally| tally.is_open()).count()
+fn are_many(tallies: &[Tally]) -> bool
+    ensures { result ≡ nat_le MANY (count_by is_open tallies.now) }
+{
+    MANY <= open_count(tallies)
+}
+
+/// How many tallies are open.
+fn open_count(tallies: &[Tally]) -> usize
+    ensures { result ≡ count_by is_open tallies.now }
+{
+    tallies.iter().filter(|tally| tally.is_open()).count()
+}
+
+/// What is known of rows before any is tested: nothing. It is kept where a few tallies are open, of which some may be of sets that
+/// are alike.
+fn no_rows(tallies: &[Tally]) -> KnownRows
+    ensures { (room : Room) → AreKnown room result }
+{
+    let open = open_count(tallies);
+    KnownRows::none(2 <= open && open < MANY)
 }
 
 /// The sums of the images at the places of a run where many tallies are open, and else none.
@@ -123,6 +145,7 @@ pub fn add_to_piece(
     ensures added { AddAll scanned.now.scope.now scanned.now.sets.now start run regions.now piece.old piece.new }
     ensures long { length piece.new ≡ length piece.old }
 {
+    let mut known = no_rows(piece);
     let mut room = [0; ROW];
     for i in 0..piece.len() {
         piece[i] = tally_after(
@@ -132,6 +155,7 @@ pub fn add_to_piece(
             regions,
             sums,
             run,
+            &mut known,
             &mut room,
         );
     }

@@ -19,6 +19,7 @@ pub loop-t-preserved : goal.loop-t-preserved
 loop-t-preserved c =
     record {
       row = row_itself c.args.geo.now c.args.sums.now.images (c.loop-t.t / c.args.geo.now.head.chunk) c.turn_row.new.row c.turn_row.ensures;
+      known = c.is_sound_at.ensures.known;
       room = c.is_sound_at.ensures.room;
       counted = λ images hold.
           let sound : c.is_sound_at.result ≡ is_sound_row images c.args.geo.now c.loop-t.t =

@@ -20,5 +20,6 @@ loop-i-preserved c = record {
       c.tally_after.ensures.adds))
       i d below e;
   rest = λ i d above. search rules;
+  known = c.tally_after.ensures.known;
   room = c.tally_after.ensures.room;
 }

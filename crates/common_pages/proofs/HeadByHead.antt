@@ -1,19 +1,24 @@
 -- Heads walked one after another.
-use Rattle.std.proofs.Common.{◌≡◌, ◌≢◌, ℕ, ◌+◌, ◌-◌, ◌<◌, ◌≤◌, ◌⊎◌, min, List, [], ◌∷◌, length, map, refl, sym, ap, ◌∙◌, arith, Option, Some, None, subst, inl, inr, IfOk, IfSome, Result, Ok, Err, IsErr, All}
+use Rattle.std.proofs.Common.{◌≡◌, ◌≢◌, ℕ, ◌+◌, ◌-◌, ◌<◌, ◌≤◌, ◌⊎◌, min, Bool, false, List, [], ◌∷◌, length, map, option_map, slice_get, refl, sym, ap, ◌∙◌, arith, Option, Some, None, subst, inl, inr, IfOk, IfSome, Result, Ok, Err, IsErr, All}
 use Rattle.std.proofs.lemmas.Bool.{cases_lt}
 use Rattle.std.proofs.lemmas.List.{length-map}
-use Rattle.std.proofs.lemmas.List.Elements.{All-nil}
+use Rattle.std.proofs.lemmas.List.Elements.{All-nil, All-weaker}
+use Rattle.std.specs.Option.{option_map_or}
 use Rattle.outside.specs.Attached.{told_all}
 use Rattle.outside.specs.Seen.{Image, Seen}
 use Rattle.search_terms.specs.Page.{passing, stop_of, IsPage}
-use Rattle.plan_sets.specs.Sets.{passes_at, total_of}
+use Rattle.plan_sets.specs.Sets.{passes, passes_at, sets_of, total_of}
+use Rattle.raid_params.specs.declared.types.Geometry.{Geometry}
+use Rattle.slot_math.proofs.Nested.{get-map}
+use Rattle.wide_product.proofs.Products.{common_are, common_set, common_total}
+use Rattle.wide_product.specs.Sets.{wide_passes, wide_passes_at, wide_sets, wide_total, Based}
 use Rattle.search_plan.specs.declared.plan.Plan.{Plan}
 use Rattle.set_product.specs.declared.heads.HeadSets.{HeadSets}
 use Rattle.head_walk.specs.Walk.{HoldsSet, AddsAll, ended_at, FillsPage, Finishes, Gathers, GoesOn, IsHeadOf, IsPart, left_after, left_reads, ReadsRange, spared_by, StandsAt, tested_by}
 use Rattle.head_walk.specs.declared.gathering.Gathered.{Gathered}
 use Rattle.head_walk.specs.declared.parts.Line.{Line}
 use Rattle.head_walk.specs.declared.parts.WalkFault.{WalkFault}
-use Rattle.common_pages.specs.Pages.{EndsOrFull, tested_to}
+use Rattle.common_pages.specs.Pages.{EndsOrFull, HoldsBased, IsPageFrom, IsPageOf, ranks_of, tested_to}
 use Rattle.common_pages.specs.declared.page_parts.ListPage.{ListPage}
 use Rattle.common_pages.specs.declared.page_parts.PageFault.{PageFault}
 use Rattle.head_walk.specs.declared.row_tables.OffsetTables.{OffsetTables}
@@ -158,6 +163,42 @@ whole told plan from stop size span next lines range is (inr fills) =
       within = omega arith;
       ended = inr (forward, fills.many);
     }
+
+-- a rank of a plan of images with a common offset passes as the one of the product does
+pub passes_are : (images : List (List ℕ)) (plan : Plan) → plan.each ≡ false → passes_at images plan ≡ wide_passes_at images plan
+unfolding passes_at wide_passes_at
+passes_are images plan each = λ i rank. at rank i
+  where
+    with_none : Geometry → Based
+    with_none geo = (geo, [])
+
+    over : (found : Option Geometry) → option_map_or (passes images plan) found false ≡ option_map_or (wide_passes images plan) (option_map with_none found) false
+    over None = refl
+    over (Some geo) = refl
+
+    at : (rank : ℕ) → option_map_or (passes images plan) (slice_get (sets_of plan) rank) false ≡ option_map_or (wide_passes images plan) (slice_get (wide_sets plan) rank) false
+    at rank =
+        over (slice_get (sets_of plan) rank)
+        ∙ ap (λ (o : Option Based). option_map_or (wide_passes images plan) o false) (sym (ap (λ (l : List Based). slice_get l rank) (common_are plan each) ∙ get-map with_none (sets_of plan) rank))
+
+-- a page that is whole, with its sets
+pub page_from : (told : Option (List (List ℕ))) (plan : Plan) (from size span : ℕ) (page : ListPage) → plan.each ≡ false → IsWhole told plan from size span page.lines page.next → page.total ≡ wide_total plan → IsPageFrom told plan from size span page
+page_from told plan from size span page each whole total =
+    let same = common_total plan each in
+    record {
+      page = of_told told whole.page;
+      sets = All-weaker (HoldsSet plan) (HoldsBased plan) (λ held holds. common_set plan held.rank held.geo.geo held.geo.bases.items each holds.0 holds.1) page.lines whole.sets;
+      total = total;
+      forward = whole.forward;
+      within = subst (λ (t : ℕ). page.next ≤ stop_of t from span) (sym same) whole.within;
+    }
+  where
+    of_told : (known : Option (List (List ℕ))) → IfSome known (λ bytes. IsPage (passes_at bytes plan) (total_of plan) from size span (ranks_of page.lines) page.next) → IfSome known (λ bytes. IsPageOf bytes plan from size span page)
+    of_told None is = tt
+    of_told (Some bytes) is =
+        let P : (ℕ → Bool) → Type 0 = λ p. IsPage p (total_of plan) from size span (ranks_of page.lines) page.next in
+        let Q : ℕ → Type 0 = λ t. IsPage (wide_passes_at bytes plan) t from size span (ranks_of page.lines) page.next in
+        subst Q (sym (common_total plan each)) (subst P (passes_are bytes plan each) is)
 
 -- the page of lines of which none was there before
 pub finished : (told : Option (List (List ℕ))) (plan : Plan) (from stop size span next : ℕ) (old new : Gathered) → old.lines ≡ [] → old.tested ≡ from → from ≤ stop → stop ≡ stop_of (total_of plan) from span →

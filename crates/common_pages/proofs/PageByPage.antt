@@ -6,7 +6,7 @@ use Rattle.std.proofs.lemmas.List.{map-append}
 use Rattle.outside.proofs.Reading.{reads_up}
 use Rattle.outside.specs.Seen.{Seen}
 use Rattle.search_terms.specs.Page.{page_next, stop_of}
-use Rattle.plan_sets.specs.Sets.{passes_at, total_of}
+use Rattle.wide_product.specs.Sets.{wide_passes_at, wide_total}
 use Rattle.search_plan.specs.declared.plan.Plan.{Plan}
 use Rattle.common_pages.specs.Pages.{ArePageEnds, ArePagesFrom, IsPageEnd, IsPageFrom, IsPageOf, ReadsPages, scans, scans_to, table_reads}
 use Rattle.head_walk.specs.Counts.{most_scanned}
@@ -19,7 +19,7 @@ use Rattle.head_walk.proofs.Scanned.{spends_join, spends_none, spends_up}
 -- pages from one rank to another, each where the last one goes on, of which none goes on at the total
 unfoldable pub Going : Option (List (List ℕ)) → Plan → ℕ → ℕ → ℕ → ℕ → List ListPage → Type 0
 Going told plan size span from to [] = from ≡ to
-Going told plan size span from to (page ∷ pages) = IsPageFrom told plan from size span page × (page.next < total_of plan) × Going told plan size span page.next to pages
+Going told plan size span from to (page ∷ pages) = IsPageFrom told plan from size span page × (page.next < wide_total plan) × Going told plan size span page.next to pages
 
 -- no page yet
 pub none_made : (told : Option (List (List ℕ))) (plan : Plan) (size span from : ℕ) → Going told plan size span from from []
@@ -28,14 +28,14 @@ none_made told plan size span from = refl
 
 -- one page more
 pub one_more : (told : Option (List (List ℕ))) (plan : Plan) (size span from mid : ℕ) (pages : List ListPage) (page : ListPage) → Going told plan size span from mid pages → IsPageFrom told plan mid size span page →
-    page.next < total_of plan → Going told plan size span from page.next (pages ++ page ∷ [])
+    page.next < wide_total plan → Going told plan size span from page.next (pages ++ page ∷ [])
 unfolding Going
 one_more told plan size span from mid [] page going is_page below = ((let P : ℕ → Type 0 = λ n. IsPageFrom told plan n size span page in subst P (sym going) is_page), below, refl)
 one_more told plan size span from mid (first ∷ pages) page going is_page below = (going.0, going.1, one_more told plan size span first.next mid pages page going.2 is_page below)
 
 -- the last page
 pub the_last : (told : Option (List (List ℕ))) (plan : Plan) (size span count from mid : ℕ) (pages : List ListPage) (page : ListPage) → Going told plan size span from mid pages → IsPageFrom told plan mid size span page →
-    page.next ≡ total_of plan → length pages < count → ArePagesFrom told plan size span count from (pages ++ page ∷ [])
+    page.next ≡ wide_total plan → length pages < count → ArePagesFrom told plan size span count from (pages ++ page ∷ [])
 unfolding Going ArePagesFrom
 the_last told plan size span zero from mid pages page going is_page at few = absurd (omega arith)
 the_last told plan size span (suc count) from mid [] page going is_page at few = ((let P : ℕ → Type 0 = λ n. IsPageFrom told plan n size span page in subst P (sym going) is_page), inl (at, refl))
@@ -51,7 +51,7 @@ all_made told plan size span (suc count) from to (page ∷ pages) going many = (
 
 -- nothing was done yet, or the pages made say that the total is small and not passed
 abbrev pub Begun : Plan → ℕ → ℕ → ℕ → Seen → Seen → Type 0
-Begun plan from made at old now = ((made ≡ 0) × (at ≡ from) × (now ≡ old)) ⊎ ((1 ≤ made) × (at ≤ total_of plan) × (total_of plan < 2 ^ 64))
+Begun plan from made at old now = ((made ≡ 0) × (at ≡ from) × (now ≡ old)) ⊎ ((1 ≤ made) × (at ≤ wide_total plan) × (wide_total plan < 2 ^ 64))
 
 -- a page that does not go on at the total goes on before it
 pub below_total : (next total all span at : ℕ) → next ≢ total → total ≡ all → next ≤ stop_of all at span → next < all
@@ -69,15 +69,15 @@ abbrev pub ends_of : List ListPage → List ℕ
 ends_of pages = map (λ (page : ListPage). page.next) pages
 
 -- a page that was made
-made_end : (told : Option (List (List ℕ))) (plan : Plan) (size span : ℕ) (failed : Bool) (from : ℕ) (page : ListPage) (later : List ℕ) → IsPageFrom told plan from size span page → IsPageEnd told plan size span failed from page.next later
+pub made_end : (told : Option (List (List ℕ))) (plan : Plan) (size span : ℕ) (failed : Bool) (from : ℕ) (page : ListPage) (later : List ℕ) → IsPageFrom told plan from size span page → IsPageEnd told plan size span failed from page.next later
 made_end told plan size span failed from page later is_page = inr (is_page.forward, is_page.within, at told is_page.page)
   where
-    at : (known : Option (List (List ℕ))) → IfSome known (λ bytes. IsPageOf bytes plan from size span page) → IfSome known (λ bytes. page.next ≡ page_next (passes_at bytes plan) (total_of plan) from size span)
+    at : (known : Option (List (List ℕ))) → IfSome known (λ bytes. IsPageOf bytes plan from size span page) → IfSome known (λ bytes. page.next ≡ page_next (wide_passes_at bytes plan) (wide_total plan) from size span)
     at None is = tt
     at (Some bytes) is = is.goes_on
 
 -- pages, and one more end
-ends_more : (told : Option (List (List ℕ))) (plan : Plan) (size span : ℕ) (failed : Bool) (count from mid end : ℕ) (pages : List ListPage) → Going told plan size span from mid pages → IsPageEnd told plan size span failed mid end [] → length pages < count →
+pub ends_more : (told : Option (List (List ℕ))) (plan : Plan) (size span : ℕ) (failed : Bool) (count from mid end : ℕ) (pages : List ListPage) → Going told plan size span from mid pages → IsPageEnd told plan size span failed mid end [] → length pages < count →
     ArePageEnds told plan size span failed count from (ends_of pages ++ end ∷ [])
 unfolding Going ArePageEnds
 ends_more told plan size span failed zero from mid end pages going is few = absurd (omega arith)
@@ -86,7 +86,7 @@ ends_more told plan size span failed (suc count) from mid end (page ∷ pages) g
     (made_end told plan size span failed from page (ends_of pages ++ end ∷ []) going.0, ends_more told plan size span failed count page.next mid end pages going.2 is (omega arith))
 
 -- pages alone
-ends_all : (told : Option (List (List ℕ))) (plan : Plan) (size span : ℕ) (failed : Bool) (count from to : ℕ) (pages : List ListPage) → Going told plan size span from to pages → length pages ≤ count → ArePageEnds told plan size span failed count from (ends_of pages)
+pub ends_all : (told : Option (List (List ℕ))) (plan : Plan) (size span : ℕ) (failed : Bool) (count from to : ℕ) (pages : List ListPage) → Going told plan size span from to pages → length pages ≤ count → ArePageEnds told plan size span failed count from (ends_of pages)
 unfolding Going ArePageEnds
 ends_all told plan size span failed count from to [] going few = tt
 ends_all told plan size span failed zero from to (page ∷ pages) going few = absurd (omega arith)
@@ -137,8 +137,8 @@ reads_more told plan size span failed count from mid b c a pages page old now ne
 
 -- and one that could not be made
 pub reads_ended : (told : Option (List (List ℕ))) (plan : Plan) (size span : ℕ) (failed : Bool) (count from mid b c a : ℕ) (pages : List ListPage) (old now new : Seen) → b ≤ table_reads plan → Going told plan size span from mid pages → length pages < count → failed ≡ true →
-    Spends b c old now (scans_to told plan from (ends_of pages) * most_scanned plan) → ReadsRange told plan mid (stop_of (total_of plan) mid span) 4095 c a now new → ReadsPages told plan size span failed count from old new
+    Spends b c old now (scans_to told plan from (ends_of pages) * most_scanned plan) → ReadsRange told plan mid (stop_of (wide_total plan) mid span) 4095 c a now new → ReadsPages told plan size span failed count from old new
 reads_ended told plan size span failed count from mid b c a pages old now new most going few fails first second =
-    reads_of told plan size span failed count from b a (ends_of pages ++ stop_of (total_of plan) mid span ∷ []) old new most
-    (ends_more told plan size span failed count from mid (stop_of (total_of plan) mid span) pages going (inl (fails, refl, refl)) few)
-    (spends_more told plan size span from mid (stop_of (total_of plan) mid span) b c a pages old now new going first second)
+    reads_of told plan size span failed count from b a (ends_of pages ++ stop_of (wide_total plan) mid span ∷ []) old new most
+    (ends_more told plan size span failed count from mid (stop_of (wide_total plan) mid span) pages going (inl (fails, refl, refl)) few)
+    (spends_more told plan size span from mid (stop_of (wide_total plan) mid span) b c a pages old now new going first second)

@@ -4,6 +4,7 @@ use Rattle.std.proofs.Math.Nat.{le-div_iff_mul-le, mul-le-mul_right}
 use Rattle.outside.proofs.Reading.{reads_up}
 use Rattle.outside.specs.Seen.{OnlyReads, Seen}
 use Rattle.search_plan.specs.declared.plan.Plan.{Plan}
+use Rattle.head_walk.proofs.Counting.{hopeful_parts, open_parts}
 use Rattle.head_walk.specs.Counts.{hopeful_ranks, most_scanned}
 use Rattle.head_walk.specs.Walk.{AreScans, left_reads, ReadsRange}
 use Rattle.common_pages.specs.Pages.{page_reads, scans, table_reads}
@@ -28,3 +29,17 @@ page_scans told plan from to b a old new most scanned =
 pub left_all : (plan : Plan) → left_reads plan [] ≤ table_reads plan
 unfolding left_reads table_reads
 left_all plan = omega arith
+
+-- for more ranks no less is read
+scans_up : (told : Option (List (List ℕ))) (plan : Plan) (from mid to : ℕ) → from ≤ mid → mid ≤ to → scans told plan from mid ≤ scans told plan from to
+unfolding scans
+scans_up told plan from mid to low high =
+    let hopeful = hopeful_parts told plan from mid to low high in
+    let open_ones = open_parts told plan from mid to low high in
+    omega arith
+
+pub page_reads_up : (told : Option (List (List ℕ))) (plan : Plan) (from mid to : ℕ) → from ≤ mid → mid ≤ to → page_reads told plan from mid ≤ page_reads told plan from to
+unfolding page_reads
+page_reads_up told plan from mid to low high =
+    let few = mul-le-mul_right (most_scanned plan) (scans_up told plan from mid to low high) in
+    omega arith

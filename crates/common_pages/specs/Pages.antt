@@ -1,23 +1,32 @@
--- Pages of the parameter sets that pass, and what is read for them.
-use Rattle.std.specs.Prelude.{ℕ, zero, suc, ◌≡◌, ◌+◌, ◌≤◌, ◌<◌, ◌^◌, ◌*◌, ◌/◌, ◌⊎◌, min, Bool, true, Result, Ok, Err, IfSome, List, [], ◌∷◌, map, sum_by, All}
+-- Pages of the parameter sets of a plan that pass, also where each image has an offset of its own; and what is read for them where
+-- the images have a common offset.
+use Rattle.std.specs.Prelude.{ℕ, zero, suc, ◌≡◌, ◌+◌, ◌≤◌, ◌<◌, ◌^◌, ◌*◌, ◌/◌, ◌⊎◌, min, Bool, true, Result, Ok, Err, IfSome, List, [], ◌∷◌, map, slice_get, sum_by, All}
 use Rattle.std.specs.declared.option.Option.{Option}
+use Rattle.std.specs.declared.option.Option.TheVariants.{Some}
 use Rattle.outside.specs.Causes.{Rose}
 use Rattle.outside.specs.Seen.{OnlyReads, Seen}
 use Rattle.search_terms.specs.Page.{page_next, stop_of, IsPage}
-use Rattle.plan_sets.specs.Sets.{passes_at, total_of}
 use Rattle.search_plan.specs.declared.plan.Plan.{Plan}
 use Rattle.common_pages.specs.declared.page_parts.ListPage.{ListPage}
 use Rattle.common_pages.specs.declared.page_parts.PageFault.{PageFault}
 use Rattle.common_pages.specs.declared.page_parts.PageFault.TheVariants.{Many, Cursor, ReadFault, Memory}
 use Rattle.head_walk.specs.Counts.{hopeful_ranks, most_scanned, offset_reads, open_ranks}
-use Rattle.head_walk.specs.Walk.{HoldsSet}
+use Rattle.head_walk.specs.declared.parts.Line.{Line}
 use Rattle.head_walk.specs.declared.parts.WalkFault.{WalkFault}
 use Rattle.head_walk.specs.declared.parts.WalkFault.TheVariants.{ReadFault as WalkReadFault, Memory as WalkMemory}
+use Rattle.wide_product.specs.Sets.{based, wide_passes_at, wide_sets, wide_total}
+
+-- the line holds the set of its rank, with its bases
+abbrev pub HoldsBased : Plan → Line → Type 0
+HoldsBased plan held = slice_get (wide_sets plan) held.rank ≡ Some (based held.geo)
+
+-- the ranks of lines
+abbrev pub ranks_of : List Line → List ℕ
+ranks_of lines = map (λ held. held.rank) lines
 
 -- the page from a rank on: its ranks, and where the next one begins, over the bytes of the images
 abbrev pub IsPageOf : List (List ℕ) → Plan → ℕ → ℕ → ℕ → ListPage → Type 0
-IsPageOf images plan from size span page =
-    IsPage (passes_at images plan) (total_of plan) from size span (map (λ held. held.rank) page.lines) page.next
+IsPageOf images plan from size span page = IsPage (wide_passes_at images plan) (wide_total plan) from size span (ranks_of page.lines) page.next
 
 -- where a page of so many lines ends: at the end of its range, and it is not full; or it is full, and has a rank at least
 abbrev pub EndsOrFull : ℕ → ℕ → ℕ → ℕ → ℕ → Type 0
@@ -26,10 +35,10 @@ EndsOrFull size from stop lines next = ((next ≡ stop) × (lines < size)) ⊎ (
 -- a page from a rank on, with its sets, over the bytes of the images where they are known
 pub record IsPageFrom (told : Option (List (List ℕ))) (plan : Plan) (from size span : ℕ) (found : ListPage) : Type 0 where
   pub page : IfSome told (λ bytes. IsPageOf bytes plan from size span found)
-  pub sets : All (HoldsSet plan) found.lines
-  pub total : found.total ≡ total_of plan
+  pub sets : All (HoldsBased plan) found.lines
+  pub total : found.total ≡ wide_total plan
   pub forward : from ≤ found.next
-  pub within : found.next ≤ stop_of (total_of plan) from span
+  pub within : found.next ≤ stop_of (wide_total plan) from span
 
 -- `count` pages, each where the last one goes on, or fewer where one goes on at the total: no page comes after it
 unfoldable pub ArePagesFrom : Option (List (List ℕ)) → Plan → ℕ → ℕ → ℕ → ℕ → List ListPage → Type 0
@@ -37,7 +46,7 @@ ArePagesFrom told plan size span zero from pages = pages ≡ []
 ArePagesFrom told plan size span (suc count) from [] = ⊥
 ArePagesFrom told plan size span (suc count) from (page ∷ pages) =
     IsPageFrom told plan from size span page
-    × (((page.next ≡ total_of plan) × (pages ≡ [])) ⊎ ((page.next < total_of plan) × ArePagesFrom told plan size span count page.next pages))
+    × (((page.next ≡ wide_total plan) × (pages ≡ [])) ⊎ ((page.next < wide_total plan) × ArePagesFrom told plan size span count page.next pages))
 
 -- why there is no page, where a walk over a head ended so
 abbrev pub page_fault : WalkFault → PageFault
@@ -47,8 +56,8 @@ page_fault WalkMemory = Memory
 -- why there is no page: there are too many sets, or the first rank is past the total, and nothing was touched; the
 -- images failed; or memory ran out, and no fault was counted
 abbrev pub EndsPage : Plan → ℕ → Seen → Seen → PageFault → Type 0
-EndsPage plan from old new Many = (2 ^ 64 ≤ total_of plan) × (new ≡ old)
-EndsPage plan from old new (Cursor fault) = (total_of plan < from) × (fault ≡ record { from = from; total = total_of plan }) × (new ≡ old)
+EndsPage plan from old new Many = (2 ^ 64 ≤ wide_total plan) × (new ≡ old)
+EndsPage plan from old new (Cursor fault) = (wide_total plan < from) × (fault ≡ record { from = from; total = wide_total plan }) × (new ≡ old)
 EndsPage plan from old new ReadFault = Rose old.faults new.faults
 EndsPage plan from old new Memory = new.faults ≡ old.faults
 
@@ -74,8 +83,8 @@ tested_to stop (Err fault) = stop
 -- pages failed, the last is the one that could not be made, and ends with its range
 abbrev pub IsPageEnd : Option (List (List ℕ)) → Plan → ℕ → ℕ → Bool → ℕ → ℕ → List ℕ → Type 0
 IsPageEnd told plan size span failed from end later =
-    ((failed ≡ true) × (end ≡ stop_of (total_of plan) from span) × (later ≡ []))
-    ⊎ ((from ≤ end) × (end ≤ stop_of (total_of plan) from span) × IfSome told (λ bytes. end ≡ page_next (passes_at bytes plan) (total_of plan) from size span))
+    ((failed ≡ true) × (end ≡ stop_of (wide_total plan) from span) × (later ≡ []))
+    ⊎ ((from ≤ end) × (end ≤ stop_of (wide_total plan) from span) × IfSome told (λ bytes. end ≡ page_next (wide_passes_at bytes plan) (wide_total plan) from size span))
 
 -- where pages end, of which there are at most `count`, each where the last one ended
 unfoldable pub ArePageEnds : Option (List (List ℕ)) → Plan → ℕ → ℕ → Bool → ℕ → ℕ → List ℕ → Type 0

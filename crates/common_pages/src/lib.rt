@@ -6,8 +6,8 @@
 //! A page is walked head by head; `head_walk` gathers the sets of each, and tests them. The tables of rows are made where
 //! the first head needs them and kept for all pages of a call.
 //!
-//! `page_engine` makes pages of any plan by these. The sets of a plan stand in `Sets` of `plan_sets`, a page by
-//! its ranks in `Page` of `search_terms`, and pages with what is read for them in `specs/Pages`.
+//! `page_engine` makes pages of any plan by these, of the same types. The sets of a plan stand in `Sets` of `wide_product`, a page
+//! by its ranks in `Page` of `search_terms`, and pages of any plan, with what is read for these, in `specs/Pages`.
 #![tactic(auto)]
 
 mod page_parts;

@@ -5,9 +5,9 @@ ghost use Rattle.outside.specs.Attached.{told_all};
 ghost use Rattle.outside.specs.Seen.{OnlyReads};
 ghost use Rattle.search_terms.specs.Page.{stop_of};
 ghost use Rattle.search_plan.specs.Plans.{IsPlan, AgreeWith};
-ghost use Rattle.plan_sets.specs.Sets.{total_of};
-ghost use Rattle.common_pages.specs.Pages.{ArePagesFrom, EndsOrFull, EndsPage, IsPageOf, page_reads, ReadsPages, tested_to};
-ghost use Rattle.head_walk.specs.Walk.{HoldsSet, IsKept, left_after, left_reads, ReadsRange};
+ghost use Rattle.wide_product.specs.Sets.{wide_total};
+ghost use Rattle.common_pages.specs.Pages.{ArePagesFrom, EndsOrFull, EndsPage, IsPageFrom, page_reads, ReadsPages, tested_to};
+ghost use Rattle.head_walk.specs.Walk.{IsKept, left_after, left_reads, ReadsRange};
 ghost use Rattle.common_pages.specs.declared.page_parts.PageFault.TheVariants.{Cursor, Many};
 
 use crate::page_parts::{CursorFault, ListPage, PageFault, PageList};
@@ -16,9 +16,9 @@ use head_walk::{Gathered, KeptTables, Lines, Paging, Waiting, finish};
 use outside::Images;
 use row_scan::Gate;
 use search_plan::Plan;
-use set_product::product_total;
 use std::alloc::Global;
 use std::thread::Threads;
+use wide_product::product_total;
 
 /// The page of a plan of images with a common offset, from a rank on: the first `size` of the sets that pass and whose ranks are
 /// below `from + span`, and the rank from which the next page goes on. Where some head of the plan needs a table of
@@ -40,18 +40,14 @@ pub fn page<R: Threads + Sync, I: Images, G: Gate + Sync>(
     requires common { plan.now.each ≡ false }
     requires lengths { AgreeWith plan.now (I.seen images.old).attached }
     requires size { 1 ≤ size }
-    ensures page { IfOk result (λ p. IfSome (told_all (I.seen images.old).attached) (λ bytes. IsPageOf bytes plan.now from size span p)) }
-    ensures sets { IfOk result (λ p. All (HoldsSet plan.now) p.lines) }
-    ensures total { IfOk result (λ p. p.total ≡ total_of plan.now) }
-    ensures many { 2 ^ 64 ≤ total_of plan.now → IsErrOf result Many }
-    ensures cursor { total_of plan.now < 2 ^ 64 → total_of plan.now < from → IsErrOf result (Cursor (record { from = from; total = total_of plan.now })) }
+    ensures page { IfOk result (IsPageFrom (told_all (I.seen images.old).attached) plan.now from size span) }
+    ensures many { 2 ^ 64 ≤ wide_total plan.now → IsErrOf result Many }
+    ensures cursor { wide_total plan.now < 2 ^ 64 → wide_total plan.now < from → IsErrOf result (Cursor (record { from = from; total = wide_total plan.now })) }
     ensures quiet { IfOk result (λ made. (I.seen images.new).faults ≡ (I.seen images.old).faults) }
     ensures ends { IfErr result (EndsPage plan.now from (I.seen images.old) (I.seen images.new)) }
     ensures reads { OnlyReads (I.seen images.old) (I.seen images.new)
-        (page_reads (told_all (I.seen images.old).attached) plan.now from (tested_to (stop_of (total_of plan.now) from span) result)) }
-    ensures forward { IfOk result (λ p. from ≤ p.next) }
-    ensures within { IfOk result (λ p. p.next ≤ stop_of (total_of plan.now) from span) }
-    ensures ended { IfOk result (λ p. EndsOrFull size from (stop_of (total_of plan.now) from span) (length p.lines) p.next) }
+        (page_reads (told_all (I.seen images.old).attached) plan.now from (tested_to (stop_of (wide_total plan.now) from span) result)) }
+    ensures ended { IfOk result (λ p. EndsOrFull size from (stop_of (wide_total plan.now) from span) (length p.lines) p.next) }
 {
     let mut kept = KeptTables::new(alloc);
     let paging = Paging {
@@ -73,22 +69,19 @@ fn next_page<R: Threads + Sync, I: Images, G: Gate + Sync>(
     span: u64,
 ) -> Result<ListPage, PageFault>
     requires plan { IsPlan paging.now.plan.now }
+    requires common { paging.now.plan.now.each ≡ false }
     requires lengths { AgreeWith paging.now.plan.now (I.seen images.old).attached }
     requires size { 1 ≤ paging.now.size }
     requires kept { All (IsKept (told_all (I.seen images.old).attached) paging.now.plan.now) kept.old }
-    ensures page { IfOk result (λ p. IfSome (told_all (I.seen images.old).attached) (λ bytes. IsPageOf bytes paging.now.plan.now from paging.now.size span p)) }
-    ensures sets { IfOk result (λ p. All (HoldsSet paging.now.plan.now) p.lines) }
-    ensures total { IfOk result (λ p. p.total ≡ total_of paging.now.plan.now) }
-    ensures many { 2 ^ 64 ≤ total_of paging.now.plan.now → IsErrOf result Many }
-    ensures cursor { total_of paging.now.plan.now < 2 ^ 64 → total_of paging.now.plan.now < from → IsErrOf result (Cursor (record { from = from; total = total_of paging.now.plan.now })) }
+    ensures page { IfOk result (IsPageFrom (told_all (I.seen images.old).attached) paging.now.plan.now from paging.now.size span) }
+    ensures many { 2 ^ 64 ≤ wide_total paging.now.plan.now → IsErrOf result Many }
+    ensures cursor { wide_total paging.now.plan.now < 2 ^ 64 → wide_total paging.now.plan.now < from → IsErrOf result (Cursor (record { from = from; total = wide_total paging.now.plan.now })) }
     ensures quiet { IfOk result (λ made. (I.seen images.new).faults ≡ (I.seen images.old).faults) }
     ensures ends { IfErr result (EndsPage paging.now.plan.now from (I.seen images.old) (I.seen images.new)) }
-    ensures reads { ReadsRange (told_all (I.seen images.old).attached) paging.now.plan.now from (tested_to (stop_of (total_of paging.now.plan.now) from span) result) 4095
+    ensures reads { ReadsRange (told_all (I.seen images.old).attached) paging.now.plan.now from (tested_to (stop_of (wide_total paging.now.plan.now) from span) result) 4095
         (left_reads paging.now.plan.now kept.old) (left_after paging.now.plan.now kept.new result) (I.seen images.old) (I.seen images.new) }
     ensures kept { All (IsKept (told_all (I.seen images.old).attached) paging.now.plan.now) kept.new }
-    ensures forward { IfOk result (λ p. from ≤ p.next) }
-    ensures within { IfOk result (λ p. p.next ≤ stop_of (total_of paging.now.plan.now) from span) }
-    ensures ended { IfOk result (λ p. EndsOrFull paging.now.size from (stop_of (total_of paging.now.plan.now) from span) (length p.lines) p.next) }
+    ensures ended { IfOk result (λ p. EndsOrFull paging.now.size from (stop_of (wide_total paging.now.plan.now) from span) (length p.lines) p.next) }
 {
     let total = product_total(paging.plan).ok_or(PageFault::Many)?;
     if from > total {
@@ -131,8 +124,8 @@ pub fn pages<R: Threads + Sync, I: Images, G: Gate + Sync>(
     requires size { 1 ≤ size }
     requires count { 1 ≤ count }
     ensures pages { IfOk result (ArePagesFrom (told_all (I.seen images.old).attached) plan.now size span count from) }
-    ensures many { 2 ^ 64 ≤ total_of plan.now → IsErrOf result Many }
-    ensures cursor { total_of plan.now < 2 ^ 64 → total_of plan.now < from → IsErrOf result (Cursor (record { from = from; total = total_of plan.now })) }
+    ensures many { 2 ^ 64 ≤ wide_total plan.now → IsErrOf result Many }
+    ensures cursor { wide_total plan.now < 2 ^ 64 → wide_total plan.now < from → IsErrOf result (Cursor (record { from = from; total = wide_total plan.now })) }
     ensures quiet { IfOk result (λ made. (I.seen images.new).faults ≡ (I.seen images.old).faults) }
     ensures ends { IfErr result (EndsPage plan.now from (I.seen images.old) (I.seen images.new)) }
     ensures reads { ReadsPages (told_all (I.seen images.old).attached) plan.now size span (is_err result) count from (I.seen images.old) (I.seen images.new) }

@@ -25,7 +25,7 @@ use Rattle.std.proofs.lemmas.Option.{slice_get_within}
 use Rattle.search_plan.specs.declared.plan.Plan.{Plan}
 use Rattle.head_walk.specs.Counts.{is_decided, is_hopeful_at, most_scanned}
 use Rattle.parity_scan.specs.Verdicts.{verdicts_of}
-use Rattle.head_walk.specs.Walk.{AddsAll, AreWaiting, ended_at, Finishes, first_tally, GoesOn, HavePassed, IsCandidate, IsPast, known_first, lines_of, ReadsRange, spared_by, StandsAt, tested_by, Wait}
+use Rattle.head_walk.specs.Walk.{AddsAll, AreWaiting, ended_at, Finishes, first_tally, GoesOn, HavePassed, IsCandidate, IsPast, known_first, ranked_sets, ReadsRange, spared_by, StandsAt, tested_by, Wait, Ranked}
 use Rattle.head_walk.specs.declared.gathering.Gathered.{Gathered}
 use Rattle.head_walk.specs.declared.parts.Line.{Line}
 use Rattle.head_walk.specs.declared.parts.WalkFault.{WalkFault}
@@ -60,13 +60,13 @@ whole_admitted admits slots all =
     ∙ number_at (λ k. admits (take k slots)) 0 (length slots + 1) (length slots) (omega arith) all
 
 -- the slots of a hopeful set are admitted
-hopeful_slots : (bytes : List (List ℕ)) (plan : Plan) (line : Line) → slice_get (sets_of plan) line.rank ≡ Some line.geo → is_hopeful_at (Some bytes) plan line.rank ≡ true → all_admitted (is_hopeful bytes plan line.geo.head) line.geo.slots.items ≡ true
+hopeful_slots : (bytes : List (List ℕ)) (plan : Plan) (line : Ranked) → slice_get (sets_of plan) line.rank ≡ Some line.geo → is_hopeful_at (Some bytes) plan line.rank ≡ true → all_admitted (is_hopeful bytes plan line.geo.head) line.geo.slots.items ≡ true
 unfolding is_hopeful_at
 hopeful_slots bytes plan line set hopeful =
     sym (ap (λ (o : Option Geometry). option_map_or (λ geo. all_admitted (is_hopeful bytes plan geo.head) geo.slots.items) o false) set) ∙ hopeful
 
 -- a candidate of which no row has to be tested meets the parity test
-pub decided_passes : (attached : List Image) (plan : Plan) (line : Line) → IsPlan plan → AgreeWith plan attached → All TellsBytes attached → IsCandidate (told_all attached) plan line → is_decided plan line.geo ≡ true →
+pub decided_passes : (attached : List Image) (plan : Plan) (line : Ranked) → IsPlan plan → AgreeWith plan attached → All TellsBytes attached → IsCandidate (told_all attached) plan line → is_decided plan line.geo ≡ true →
     IfSome (told_all attached) (λ bytes. passes_parity bytes line.geo plan.end plan.limits.window plan.limits.badrows ≡ true)
 decided_passes attached plan line is_plan agrees tells is decided = elim (cases_Bool (is_unbreakable line.geo)) [
   | inl holds ↦ unbreakable_passes attached line.geo plan.end plan.limits.window plan.limits.badrows tells (scannable plan line.rank line.geo attached is_plan is.set agrees) holds
@@ -82,7 +82,7 @@ decided_passes attached plan line is_plan agrees tells is decided = elim (cases_
         sym (decide bytes plan line.rank line.geo known.set decides) ∙ rest.1
 
 -- the tallies of sets that wait begin as those of a scan
-begins_as : (attached : List Image) (plan : Plan) (line : Line) → IsPlan plan → AgreeWith plan attached → All TellsBytes attached → IsCandidate (told_all attached) plan line → BeginsAs (told_all attached) (scope_of plan) line.geo (first_tally plan line.geo)
+begins_as : (attached : List Image) (plan : Plan) (line : Ranked) → IsPlan plan → AgreeWith plan attached → All TellsBytes attached → IsCandidate (told_all attached) plan line → BeginsAs (told_all attached) (scope_of plan) line.geo (first_tally plan line.geo)
 begins_as attached plan line is_plan agrees tells is = elim (cases_Bool (is_decided plan line.geo)) [
   | inl t ↦ subst P (sym (first_passes plan line.geo t)) (decided_passes attached plan line is_plan agrees tells is t)
   | inr f ↦ subst P (sym (first_left plan line.geo f)) refl
@@ -93,11 +93,11 @@ begins_as attached plan line is_plan agrees tells is = elim (cases_Bool (is_deci
 
 -- so do those of all that wait
 pub all_begin : (attached : List Image) (plan : Plan) (waiting : Waiting) (tallies : List Tally) → IsPlan plan → AgreeWith plan attached → All TellsBytes attached → AreWaiting plan waiting → tallies ≡ waiting.tallies.items →
-    All (IsCandidate (told_all attached) plan) (lines_of waiting.ranks waiting.sets) → AllTallies (BeginsAs (told_all attached) (scope_of plan)) waiting.sets tallies
+    All (IsCandidate (told_all attached) plan) (ranked_sets waiting.ranks waiting.sets) → AllTallies (BeginsAs (told_all attached) (scope_of plan)) waiting.sets tallies
 all_begin attached plan waiting tallies is_plan agrees tells are same all = λ i d e below.
-    let none : Line = record { rank = 0; geo = e } in
+    let none : Ranked = record { rank = 0; geo = e } in
     let long = lines_long waiting.ranks waiting.sets are.ranks in
-    let here : get_or (lines_of waiting.ranks waiting.sets) i none ≡ record { rank = get_or waiting.ranks i 0; geo = get_or waiting.sets i e } = line_at waiting.ranks waiting.sets i none 0 e are.ranks below in
+    let here : get_or (ranked_sets waiting.ranks waiting.sets) i none ≡ record { rank = get_or waiting.ranks i 0; geo = get_or waiting.sets i e } = line_at waiting.ranks waiting.sets i none 0 e are.ranks below in
     let tally : get_or tallies i d ≡ first_tally plan (get_or waiting.sets i e) = ap (λ (l : List Tally). get_or l i d) (same ∙ are.tallies) ∙ get_or-map (first_tally plan) waiting.sets i e d below in
     let is : IsCandidate (told_all attached) plan (record { rank = get_or waiting.ranks i 0; geo = get_or waiting.sets i e }) = subst (IsCandidate (told_all attached) plan) here (all i none (omega arith)) in
     let P : Tally → Type 0 = λ t. BeginsAs (told_all attached) (scope_of plan) (get_or waiting.sets i e) t in
@@ -174,21 +174,21 @@ pushed_below lines before known count size few (inl same) less = omega arith
 pushed_below lines before known count size few (inr all) less = absurd (omega arith)
 
 -- one more waits
-pub waits_more : (told : Option (List (List ℕ))) (plan : Plan) (size : ℕ) (line : Line) (old : Gathered) (waiting : Waiting) → StandsAt told plan size line.rank old → IsCandidate told plan line → waiting.ranks ≡ old.waiting.ranks ++ line.rank ∷ [] →
-    waiting.sets ≡ old.waiting.sets ++ line.geo ∷ [] → Wait told plan old.tested (line.rank + 1) (lines_of waiting.ranks waiting.sets)
+pub waits_more : (told : Option (List (List ℕ))) (plan : Plan) (size : ℕ) (line : Ranked) (old : Gathered) (waiting : Waiting) → StandsAt told plan size line.rank old → IsCandidate told plan line → waiting.ranks ≡ old.waiting.ranks ++ line.rank ∷ [] →
+    waiting.sets ≡ old.waiting.sets ++ line.geo ∷ [] → Wait told plan old.tested (line.rank + 1) (ranked_sets waiting.ranks waiting.sets)
 waits_more told plan size line old waiting stands is ranks sets =
-    let P : List Line → Type 0 = λ l. Wait told plan old.tested (line.rank + 1) l in
-    let Q : List ℕ → Type 0 = λ l. Wait told plan old.tested (line.rank + 1) (lines_of l waiting.sets) in
-    let R : List Geometry → Type 0 = λ l. Wait told plan old.tested (line.rank + 1) (lines_of (old.waiting.ranks ++ line.rank ∷ []) l) in
+    let P : List Ranked → Type 0 = λ l. Wait told plan old.tested (line.rank + 1) l in
+    let Q : List ℕ → Type 0 = λ l. Wait told plan old.tested (line.rank + 1) (ranked_sets l waiting.sets) in
+    let R : List Geometry → Type 0 = λ l. Wait told plan old.tested (line.rank + 1) (ranked_sets (old.waiting.ranks ++ line.rank ∷ []) l) in
     subst Q (sym ranks) (subst R (sym sets) (subst P (sym (lines_more old.waiting.ranks old.waiting.sets line.rank line.geo stands.are.ranks))
-    (wait_add told plan old.tested line (lines_of old.waiting.ranks old.waiting.sets) stands.wait is)))
+    (wait_add told plan old.tested line (ranked_sets old.waiting.ranks old.waiting.sets) stands.wait is)))
 
 -- a page goes on with one more that waits
-pub waits_on : (told : Option (List (List ℕ))) (plan : Plan) (size : ℕ) (line : Line) (old new : Gathered) → StandsAt told plan size line.rank old → IsCandidate told plan line → AreWaiting plan new.waiting →
+pub waits_on : (told : Option (List (List ℕ))) (plan : Plan) (size : ℕ) (line : Ranked) (old new : Gathered) → StandsAt told plan size line.rank old → IsCandidate told plan line → AreWaiting plan new.waiting →
     new.lines ≡ old.lines → new.tested ≡ old.tested → new.waiting.ranks ≡ old.waiting.ranks ++ line.rank ∷ [] → new.waiting.sets ≡ old.waiting.sets ++ line.geo ∷ [] →
     length new.lines + new.waiting.known < size → length new.waiting.sets < 4096 → GoesOn told plan size (line.rank + 1) old new
 waits_on told plan size line old new stands is are lines tested ranks sets few room =
-    let Q : ℕ → Type 0 = λ n. Wait told plan n (line.rank + 1) (lines_of new.waiting.ranks new.waiting.sets) in
+    let Q : ℕ → Type 0 = λ n. Wait told plan n (line.rank + 1) (ranked_sets new.waiting.ranks new.waiting.sets) in
     let same = adds_none told plan old.tested old.lines in
     let S : List Line → Type 0 = λ l. AddsAll told plan old.tested old.tested (length old.lines + 1) old.lines l in
     let T : ℕ → Type 0 = λ n. AddsAll told plan old.tested n (length old.lines + 1) old.lines new.lines in
@@ -205,45 +205,45 @@ waits_on told plan size line old new stands is are lines tested ranks sets few r
 
 -- a whole page of which none waits
 pub finishes_empty : (told : Option (List (List ℕ))) (plan : Plan) (size stop : ℕ) (old new : Gathered) → StandsAt told plan size stop old → length old.waiting.sets ≡ 0 → new.lines ≡ old.lines → Finishes told plan size stop old new stop
-unfolding lines_of
+unfolding ranked_sets
 finishes_empty told plan size stop old new stands none same =
-    let P : List Line → Type 0 = λ l. Wait told plan old.tested stop l in
+    let P : List Ranked → Type 0 = λ l. Wait told plan old.tested stop l in
     let nothing = wait_nothing told plan old.tested stop (subst P (empty old.waiting.ranks old.waiting.sets none) stands.wait) in
     let Q : List Line → Type 0 = λ l. AddsAll told plan old.tested stop size old.lines l in
     inl (refl, subst Q (sym same) (record { adds = adds_past told plan old.tested old.tested stop old.lines old.lines (adds_none told plan old.tested old.lines) (omega arith) nothing.0 nothing.1; few = (let few = stands.few in omega arith) }))
   where
-    empty : (ranks : List ℕ) (sets : List Geometry) → length sets ≡ 0 → lines_of ranks sets ≡ []
+    empty : (ranks : List ℕ) (sets : List Geometry) → length sets ≡ 0 → ranked_sets ranks sets ≡ []
     empty [] sets e = refl
     empty (rank ∷ ranks) [] e = refl
     empty (rank ∷ ranks) (geo ∷ sets) e = absurd (omega arith)
 
 -- the first of those that wait that has rows to be tested
-first_open : (told : Option (List (List ℕ))) (plan : Plan) (from at next : ℕ) (ranks : List ℕ) (sets : List Geometry) → length ranks ≡ length sets → Wait told plan from at (lines_of ranks sets) → known_first plan sets < length sets →
-    ((d : Line) → (get_or (lines_of ranks sets) (known_first plan sets) d).rank < next) → BeginOpen told plan from next
+first_open : (told : Option (List (List ℕ))) (plan : Plan) (from at next : ℕ) (ranks : List ℕ) (sets : List Geometry) → length ranks ≡ length sets → Wait told plan from at (ranked_sets ranks sets) → known_first plan sets < length sets →
+    ((d : Ranked) → (get_or (ranked_sets ranks sets) (known_first plan sets) d).rank < next) → BeginOpen told plan from next
 first_open told plan from at next ranks [] same wait less high = absurd (omega arith)
 first_open told plan from at next ranks (geo ∷ sets) same wait less high =
-    let none : Line = record { rank = 0; geo = geo } in
+    let none : Ranked = record { rank = 0; geo = geo } in
     let k = known_first plan (geo ∷ sets) in
     let long = lines_long ranks (geo ∷ sets) same in
     let here = line_at ranks (geo ∷ sets) (known_first plan (geo ∷ sets)) none 0 geo same less in
     record {
-      line = get_or (lines_of ranks (geo ∷ sets)) (known_first plan (geo ∷ sets)) none;
-      low = wait_from told plan from at (lines_of ranks (geo ∷ sets)) (known_first plan (geo ∷ sets)) none wait (omega arith);
+      line = get_or (ranked_sets ranks (geo ∷ sets)) (known_first plan (geo ∷ sets)) none;
+      low = wait_from told plan from at (ranked_sets ranks (geo ∷ sets)) (known_first plan (geo ∷ sets)) none wait (omega arith);
       high = high none;
-      is = wait_each told plan from at (lines_of ranks (geo ∷ sets)) (known_first plan (geo ∷ sets)) none wait (omega arith);
-      undecided = ap (λ (l : Line). is_decided plan l.geo) here ∙ known_open plan (geo ∷ sets) geo less;
+      is = wait_each told plan from at (ranked_sets ranks (geo ∷ sets)) (known_first plan (geo ∷ sets)) none wait (omega arith);
+      undecided = ap (λ (l : Ranked). is_decided plan l.geo) here ∙ known_open plan (geo ∷ sets) geo less;
     }
 
 -- it stands before the end of their range, and before the next page where this one is full with a later set
-open_before : (told : Option (List (List ℕ))) (plan : Plan) (from at : ℕ) (waiting : Waiting) → AreWaiting plan waiting → Wait told plan from at (lines_of waiting.ranks waiting.sets) → waiting.known < length waiting.sets → BeginOpen told plan from at
+open_before : (told : Option (List (List ℕ))) (plan : Plan) (from at : ℕ) (waiting : Waiting) → AreWaiting plan waiting → Wait told plan from at (ranked_sets waiting.ranks waiting.sets) → waiting.known < length waiting.sets → BeginOpen told plan from at
 open_before told plan from at waiting are wait less =
     let known : waiting.known ≡ known_first plan waiting.sets = are.known in
     let long = lines_long waiting.ranks waiting.sets are.ranks in
     first_open told plan from at at waiting.ranks waiting.sets are.ranks wait (omega arith)
-    (λ d. let before = wait_before told plan from at (lines_of waiting.ranks waiting.sets) (known_first plan waiting.sets) d wait (omega arith) in omega arith)
+    (λ d. let before = wait_before told plan from at (ranked_sets waiting.ranks waiting.sets) (known_first plan waiting.sets) d wait (omega arith) in omega arith)
 
 -- the same where the page is full with a later set
-open_past : (told : Option (List (List ℕ))) (plan : Plan) (from at next : ℕ) (waiting : Waiting) → AreWaiting plan waiting → Wait told plan from at (lines_of waiting.ranks waiting.sets) → waiting.known < length waiting.sets → IsPast waiting.ranks waiting.known next →
+open_past : (told : Option (List (List ℕ))) (plan : Plan) (from at next : ℕ) (waiting : Waiting) → AreWaiting plan waiting → Wait told plan from at (ranked_sets waiting.ranks waiting.sets) → waiting.known < length waiting.sets → IsPast waiting.ranks waiting.known next →
     BeginOpen told plan from next
 open_past told plan from at next waiting are wait less past =
     let known : waiting.known ≡ known_first plan waiting.sets = are.known in
@@ -253,8 +253,8 @@ open_past told plan from at next waiting are wait less past =
     let later : waiting.known ≤ past.place = past.later in
     let last : next ≡ slice_index waiting.ranks past.place + 1 = past.last in
     first_open told plan from at next waiting.ranks waiting.sets are.ranks wait (omega arith)
-    (λ d. let rises = wait_rises told plan from at (lines_of waiting.ranks waiting.sets) (known_first plan waiting.sets) past.place d wait (omega arith) (omega arith) in
-    let here = ap (λ (l : Line). l.rank) (line_at waiting.ranks waiting.sets past.place d 0 d.geo are.ranks (omega arith)) in
+    (λ d. let rises = wait_rises told plan from at (ranked_sets waiting.ranks waiting.sets) (known_first plan waiting.sets) past.place d wait (omega arith) (omega arith) in
+    let here = ap (λ (l : Ranked). l.rank) (line_at waiting.ranks waiting.sets past.place d 0 d.geo are.ranks (omega arith)) in
     omega arith)
 
 -- what is read where those that wait are tested
@@ -270,30 +270,30 @@ last_scan told plan from next waiting old new are first reads unread =
     ]
 
 -- a scan of as many sets as there may be
-whole_scan : (told : Option (List (List ℕ))) (plan : Plan) (from at : ℕ) (waiting : Waiting) (old new : Seen) → AreWaiting plan waiting → Wait told plan from at (lines_of waiting.ranks waiting.sets) → length waiting.sets ≡ 4096 →
+whole_scan : (told : Option (List (List ℕ))) (plan : Plan) (from at : ℕ) (waiting : Waiting) (old new : Seen) → AreWaiting plan waiting → Wait told plan from at (ranked_sets waiting.ranks waiting.sets) → length waiting.sets ≡ 4096 →
     OnlyReads old new (most_scanned plan) → (waiting.known ≡ length waiting.sets → new ≡ old) → ReadsRange told plan from at 0 0 0 old new
 whole_scan told plan from at waiting old new are wait long reads unread =
     let known : waiting.known ≡ known_first plan waiting.sets = are.known in
     let most = known_most plan waiting.sets in
     let count = lines_long waiting.ranks waiting.sets are.ranks in
     elim (cases_lt waiting.known (length waiting.sets)) [
-      | inl less ↦ scans_one told plan from at 0 0 old new (full_scan told plan from at (lines_of waiting.ranks waiting.sets) wait (open_before told plan from at waiting are wait less) (omega arith)) reads
+      | inl less ↦ scans_one told plan from at 0 0 old new (full_scan told plan from at (ranked_sets waiting.ranks waiting.sets) wait (open_before told plan from at waiting are wait less) (omega arith)) reads
       | inr more ↦ (let P : Seen → Type 0 = λ s. ReadsRange told plan from at 0 0 0 old s in
           subst P (sym (unread (omega arith))) (scans_none told plan from at 0 0 old))
     ]
 
 -- at the end of a range
-pub end_scan : (told : Option (List (List ℕ))) (plan : Plan) (from at : ℕ) (waiting : Waiting) (old new : Seen) → AreWaiting plan waiting → Wait told plan from at (lines_of waiting.ranks waiting.sets) →
+pub end_scan : (told : Option (List (List ℕ))) (plan : Plan) (from at : ℕ) (waiting : Waiting) (old new : Seen) → AreWaiting plan waiting → Wait told plan from at (ranked_sets waiting.ranks waiting.sets) →
     OnlyReads old new (most_scanned plan) → (waiting.known ≡ length waiting.sets → new ≡ old) → ReadsRange told plan from at 4095 0 0 old new
 end_scan told plan from at waiting old new are wait reads unread = last_scan told plan from at waiting old new are (open_before told plan from at waiting are wait) reads unread
 
 -- where the page is full
-pub past_scan : (told : Option (List (List ℕ))) (plan : Plan) (from at next : ℕ) (waiting : Waiting) (old new : Seen) → AreWaiting plan waiting → Wait told plan from at (lines_of waiting.ranks waiting.sets) → (waiting.known < length waiting.sets → IsPast waiting.ranks waiting.known next) →
+pub past_scan : (told : Option (List (List ℕ))) (plan : Plan) (from at next : ℕ) (waiting : Waiting) (old new : Seen) → AreWaiting plan waiting → Wait told plan from at (ranked_sets waiting.ranks waiting.sets) → (waiting.known < length waiting.sets → IsPast waiting.ranks waiting.known next) →
     OnlyReads old new (most_scanned plan) → (waiting.known ≡ length waiting.sets → new ≡ old) → ReadsRange told plan from next 4095 0 0 old new
 past_scan told plan from at next waiting old new are wait past reads unread = last_scan told plan from next waiting old new are (λ less. open_past told plan from at next waiting are wait less (past less)) reads unread
 
 -- where as many wait as may, or the page is full with those that are known to pass
-pub scan_by : (told : Option (List (List ℕ))) (plan : Plan) (from at size lines : ℕ) (waiting : Waiting) (page : Gathered) (r : Result (Option ℕ) WalkFault) (old new : Seen) → AreWaiting plan waiting → Wait told plan from at (lines_of waiting.ranks waiting.sets) →
+pub scan_by : (told : Option (List (List ℕ))) (plan : Plan) (from at size lines : ℕ) (waiting : Waiting) (page : Gathered) (r : Result (Option ℕ) WalkFault) (old new : Seen) → AreWaiting plan waiting → Wait told plan from at (ranked_sets waiting.ranks waiting.sets) →
     (4096 ≤ length waiting.sets) ⊎ (size ≤ lines + waiting.known) → length waiting.sets ≤ 4096 → (waiting.known < length waiting.sets → lines + waiting.known < size) →
     IfOk r (λ full. full ≡ None → page.tested ≡ at) → IfOk r (λ full. size ≤ lines + waiting.known → is_some full ≡ true) → IfOk r (λ full. IfSome full (λ next. lines + waiting.known < size → IsPast waiting.ranks waiting.known next)) →
     OnlyReads old new (most_scanned plan) → (waiting.known ≡ length waiting.sets → new ≡ old) → ReadsRange told plan from (tested_by at page r) (spared_by r) 0 0 old new
@@ -310,6 +310,6 @@ ended_err stop (Ok next) e = absurd (cc)
 ended_err stop (Err fault) e = refl
 
 -- a candidate's rank is below the total
-pub rank_below : (told : Option (List (List ℕ))) (plan : Plan) (line : Line) → IsCandidate told plan line → line.rank < total_of plan
+pub rank_below : (told : Option (List (List ℕ))) (plan : Plan) (line : Ranked) → IsCandidate told plan line → line.rank < total_of plan
 unfolding total_of
 rank_below told plan line is = slice_get_within (sets_of plan) line.rank line.geo is.set

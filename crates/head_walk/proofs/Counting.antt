@@ -7,8 +7,7 @@ use Rattle.raid_params.specs.declared.types.Geometry.{Geometry}
 use Rattle.plan_sets.specs.Sets.{sets_of}
 use Rattle.search_plan.specs.declared.plan.Plan.{Plan}
 use Rattle.head_walk.specs.Counts.{hopeful_ranks, is_decided, is_hopeful_at, is_open_at, open_ranks}
-use Rattle.head_walk.specs.Walk.{AreScans, IsCandidate, Wait}
-use Rattle.head_walk.specs.declared.parts.Line.{Line}
+use Rattle.head_walk.specs.Walk.{AreScans, IsCandidate, Wait, Ranked}
 
 -- one number more
 sum_more : (f : ℕ → ℕ) (a n : ℕ) → sum_by f (range_with_len a (n + 1)) ≡ sum_by f (range_with_len a n) + f (a + n)
@@ -73,14 +72,14 @@ unfolding open_ranks
 open_one told plan rank e = sum_one (λ r. cond (is_open_at told plan r) 1 0) rank ∙ ap (λ (b : Bool). cond b 1 0) e
 
 -- a candidate whose rows have to be tested
-is_open : (told : Option (List (List ℕ))) (plan : Plan) (line : Line) → IsCandidate told plan line → is_decided plan line.geo ≡ false → is_open_at told plan line.rank ≡ true
+is_open : (told : Option (List (List ℕ))) (plan : Plan) (line : Ranked) → IsCandidate told plan line → is_decided plan line.geo ≡ false → is_open_at told plan line.rank ≡ true
 unfolding is_open_at
 is_open told plan line is undecided =
     let set : slice_get (sets_of plan) line.rank ≡ Some line.geo = is.set in
     ap₂ (λ (a b : Bool). a && b) is.hopeful (ap (λ (o : Option Geometry). not (option_map_or (is_decided plan) o true)) set ∙ ap not undecided)
 
 -- no more sets wait than are hopeful
-pub few_wait : (told : Option (List (List ℕ))) (plan : Plan) (from at : ℕ) (lines : List Line) → Wait told plan from at lines → (from ≤ at) × (length lines ≤ hopeful_ranks told plan from at)
+pub few_wait : (told : Option (List (List ℕ))) (plan : Plan) (from at : ℕ) (lines : List Ranked) → Wait told plan from at lines → (from ≤ at) × (length lines ≤ hopeful_ranks told plan from at)
 unfolding Wait
 few_wait told plan from at [] wait = (wait.0, omega arith)
 few_wait told plan from at (line ∷ lines) (low, none, is, rest) =
@@ -93,7 +92,7 @@ few_wait told plan from at (line ∷ lines) (low, none, is, rest) =
     (omega arith, omega arith)
 
 -- the first of those that wait is hopeful, and its rows have to be tested
-first_counts : (told : Option (List (List ℕ))) (plan : Plan) (from next : ℕ) (line : Line) → from ≤ line.rank → line.rank < next → IsCandidate told plan line → is_decided plan line.geo ≡ false →
+first_counts : (told : Option (List (List ℕ))) (plan : Plan) (from next : ℕ) (line : Ranked) → from ≤ line.rank → line.rank < next → IsCandidate told plan line → is_decided plan line.geo ≡ false →
     (1 ≤ open_ranks told plan from next) × (1 ≤ hopeful_ranks told plan from next)
 first_counts told plan from next line low high is undecided =
     let a = hopeful_parts told plan from line.rank next low (omega arith) in
@@ -110,7 +109,7 @@ no_scans told plan from to spare = record { needed = omega arith; many = omega a
 
 -- of the sets that wait, the first that has rows to be tested stands before a rank
 pub record BeginOpen (told : Option (List (List ℕ))) (plan : Plan) (from next : ℕ) : Type 0 where
-  pub line : Line
+  pub line : Ranked
   pub low : from ≤ line.rank
   pub high : line.rank < next
   pub is : IsCandidate told plan line
@@ -125,7 +124,7 @@ open_scan told plan from next first =
     record { needed = open_some; many = omega arith }
 
 -- one scan of as many sets as there may be
-pub full_scan : (told : Option (List (List ℕ))) (plan : Plan) (from at : ℕ) (lines : List Line) → Wait told plan from at lines → BeginOpen told plan from at → length lines ≡ 4096 → AreScans told plan from at 0 1
+pub full_scan : (told : Option (List (List ℕ))) (plan : Plan) (from at : ℕ) (lines : List Ranked) → Wait told plan from at lines → BeginOpen told plan from at → length lines ≡ 4096 → AreScans told plan from at 0 1
 full_scan told plan from at lines wait first long =
     let few = few_wait told plan from at lines wait in
     let hopeful = few.1 in

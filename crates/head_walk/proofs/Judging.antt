@@ -18,34 +18,33 @@ use Rattle.parity_scan.specs.declared.samples.TheConstants.{SAMPLES}
 use Rattle.search_plan.specs.Plans.{IsPlan, AgreeWith}
 use Rattle.search_plan.specs.declared.plan.Plan.{Plan}
 use Rattle.head_walk.specs.Counts.{most_scanned}
-use Rattle.head_walk.specs.Walk.{AreWaiting, IsCandidate, lines_of, Wait}
+use Rattle.head_walk.specs.Walk.{AreWaiting, IsCandidate, ranked_sets, Wait, Ranked}
 use Rattle.head_walk.specs.declared.waiting.Waiting.{Waiting}
 use Rattle.outside.specs.Attached.{told_all}
 use Rattle.head_walk.proofs.Waits.{each_waits, line_at, lines_long}
-use Rattle.head_walk.specs.declared.parts.Line.{Line}
 use Rattle.head_walk.proofs.SetTests.{few_slots, scannable}
 
 -- what holds of each candidate holds of its set
-pub each_set : (P : Geometry → Type 0) (told : Option (List (List ℕ))) (plan : Plan) (ranks : List ℕ) (sets : List Geometry) → length ranks ≡ length sets → All (IsCandidate told plan) (lines_of ranks sets) →
-    ((line : Line) → IsCandidate told plan line → P line.geo) → All P sets
+pub each_set : (P : Geometry → Type 0) (told : Option (List (List ℕ))) (plan : Plan) (ranks : List ℕ) (sets : List Geometry) → length ranks ≡ length sets → All (IsCandidate told plan) (ranked_sets ranks sets) →
+    ((line : Ranked) → IsCandidate told plan line → P line.geo) → All P sets
 each_set P told plan ranks sets same all holds = λ k d below.
-    let none : Line = record { rank = 0; geo = d } in
+    let none : Ranked = record { rank = 0; geo = d } in
     let long = lines_long ranks sets same in
-    let here : get_or (lines_of ranks sets) k none ≡ record { rank = get_or ranks k 0; geo = get_or sets k d } = line_at ranks sets k none 0 d same below in
+    let here : get_or (ranked_sets ranks sets) k none ≡ record { rank = get_or ranks k 0; geo = get_or sets k d } = line_at ranks sets k none 0 d same below in
     holds (record { rank = get_or ranks k 0; geo = get_or sets k d }) (subst (IsCandidate told plan) here (all k none (omega arith)))
 
 -- each has few slots
-pub all_few : (told : Option (List (List ℕ))) (plan : Plan) (ranks : List ℕ) (sets : List Geometry) → IsPlan plan → length ranks ≡ length sets → All (IsCandidate told plan) (lines_of ranks sets) → All (λ geo. length geo.slots.items ≤ MOST) sets
+pub all_few : (told : Option (List (List ℕ))) (plan : Plan) (ranks : List ℕ) (sets : List Geometry) → IsPlan plan → length ranks ≡ length sets → All (IsCandidate told plan) (ranked_sets ranks sets) → All (λ geo. length geo.slots.items ≤ MOST) sets
 all_few told plan ranks sets is_plan same all = each_set (λ geo. length geo.slots.items ≤ MOST) told plan ranks sets same all (λ line is. few_slots plan line.rank line.geo is_plan is.set)
 
 -- the parity of each can be tested
-pub all_scannable : (told : Option (List (List ℕ))) (plan : Plan) (attached : List Image) (ranks : List ℕ) (sets : List Geometry) → IsPlan plan → AgreeWith plan attached → length ranks ≡ length sets → All (IsCandidate told plan) (lines_of ranks sets) →
+pub all_scannable : (told : Option (List (List ℕ))) (plan : Plan) (attached : List Image) (ranks : List ℕ) (sets : List Geometry) → IsPlan plan → AgreeWith plan attached → length ranks ≡ length sets → All (IsCandidate told plan) (ranked_sets ranks sets) →
     All (λ geo. IsScannable geo plan.end attached) sets
 all_scannable told plan attached ranks sets is_plan agrees same all =
     each_set (λ geo. IsScannable geo plan.end attached) told plan ranks sets same all (λ line is. scannable plan line.rank line.geo attached is_plan is.set agrees)
 
 -- each has an offset of the plan
-pub all_offsets : (told : Option (List (List ℕ))) (plan : Plan) (ranks : List ℕ) (sets : List Geometry) → length ranks ≡ length sets → All (IsCandidate told plan) (lines_of ranks sets) → All (λ geo. Contains plan.bounds.offsets.items geo.head.offset) sets
+pub all_offsets : (told : Option (List (List ℕ))) (plan : Plan) (ranks : List ℕ) (sets : List Geometry) → length ranks ≡ length sets → All (IsCandidate told plan) (ranked_sets ranks sets) → All (λ geo. Contains plan.bounds.offsets.items geo.head.offset) sets
 all_offsets told plan ranks sets same all = each_set (λ geo. Contains plan.bounds.offsets.items geo.head.offset) told plan ranks sets same all (λ line is. is.among.offset)
 
 -- what holds of one of the offsets of the sets holds of one of the plan's
@@ -91,10 +90,10 @@ scanned old new plan sets agrees all reads =
     (mul-le-mul_left (length plan.lengths.items) (let more : SAMPLES + window_sectors plan.end plan.limits.window (offsets_of sets) ≤ SAMPLES + window_sectors plan.end plan.limits.window plan.bounds.offsets.items = omega arith in more))
 
 -- what is read for those that wait
-pub waiting_read : (old new : Seen) (plan : Plan) (from at : ℕ) (waiting : Waiting) (sets : List Geometry) → AgreeWith plan old.attached → AreWaiting plan waiting → Wait (told_all old.attached) plan from at (lines_of waiting.ranks waiting.sets) → sets ≡ waiting.sets →
+pub waiting_read : (old new : Seen) (plan : Plan) (from at : ℕ) (waiting : Waiting) (sets : List Geometry) → AgreeWith plan old.attached → AreWaiting plan waiting → Wait (told_all old.attached) plan from at (ranked_sets waiting.ranks waiting.sets) → sets ≡ waiting.sets →
     OnlyReads old new (scan_reads (length old.attached) plan.end plan.limits.window (offsets_of sets)) → OnlyReads old new (most_scanned plan)
 waiting_read old new plan from at waiting sets agrees are wait same reads =
     scanned old new plan sets agrees
     (subst (λ (l : List Geometry). All (λ geo. Contains plan.bounds.offsets.items geo.head.offset) l) (sym same)
-    (all_offsets (told_all old.attached) plan waiting.ranks waiting.sets are.ranks (each_waits (told_all old.attached) plan from at (lines_of waiting.ranks waiting.sets) wait)))
+    (all_offsets (told_all old.attached) plan waiting.ranks waiting.sets are.ranks (each_waits (told_all old.attached) plan from at (ranked_sets waiting.ranks waiting.sets) wait)))
     reads

@@ -8,7 +8,7 @@ use Rattle.plan_sets.specs.Sets.{passes_at, sets_of}
 use Rattle.search_plan.specs.declared.plan.Plan.{Plan}
 use Rattle.set_product.specs.declared.heads.HeadSets.{HeadSets}
 use Rattle.slot_math.specs.Space.{lists_of}
-use Rattle.head_walk.specs.Walk.{ended_at, FillsPage, Finishes, Gathers, GoesOn, IsHeadOf, IsPart, left_after, lines_of, left_reads, NonePass, ReadsRange, spared_by, StandsAt, tested_by}
+use Rattle.head_walk.specs.Walk.{ended_at, FillsPage, Finishes, Gathers, GoesOn, IsHeadOf, IsPart, left_after, ranked_sets, left_reads, NonePass, ReadsRange, spared_by, StandsAt, tested_by}
 use Rattle.head_walk.specs.declared.gathering.Gathered.{Gathered}
 use Rattle.head_walk.specs.declared.parts.WalkFault.{WalkFault}
 use Rattle.head_walk.specs.declared.row_tables.OffsetTables.{OffsetTables}
@@ -48,7 +48,7 @@ goes_no_rows told plan sets size from stop page is_head part none stands =
 
 -- each set before this rank is tested, or waits
 pub tested_before : (told : Option (List (List ℕ))) (plan : Plan) (size at : ℕ) (page : Gathered) → StandsAt told plan size at page → page.tested ≤ at
-tested_before told plan size at page stands = (few_wait told plan page.tested at (lines_of page.waiting.ranks page.waiting.sets) stands.wait).0
+tested_before told plan size at page stands = (few_wait told plan page.tested at (ranked_sets page.waiting.ranks page.waiting.sets) stands.wait).0
 
 -- what a head did, as one option or the other
 pub gathers_full : (attached other : List Image) (plan : Plan) (size to next : ℕ) (old new : Gathered) (full : Option ℕ) → other ≡ attached → full ≡ Some next → Gathers (told_all other) plan size to old new full →

@@ -10,7 +10,7 @@ use Rattle.parity_scan.specs.declared.tally.Tally.{Tally}
 use Rattle.plan_sets.specs.Sets.{passes_at}
 use Rattle.search_plan.specs.declared.plan.Plan.{Plan}
 use Rattle.raid_params.specs.declared.types.Geometry.{Geometry}
-use Rattle.head_walk.specs.Walk.{AddsAll, AddsPassed, AddsRange, AddsWaiting, FillsPage, Gathers, GoesOn, HavePassed, IsCandidate, IsPast, lines_of, NonePass, Wait}
+use Rattle.head_walk.specs.Walk.{AddsAll, AddsPassed, AddsRange, AddsWaiting, FillsPage, Gathers, GoesOn, HavePassed, IsCandidate, IsLineOf, IsPast, NonePass, Ranked, ranked_sets, Wait}
 use Rattle.head_walk.specs.declared.gathering.Gathered.{Gathered}
 use Rattle.head_walk.specs.declared.parts.Line.{Line}
 use Rattle.head_walk.specs.declared.waiting.Waiting.{Waiting}
@@ -20,11 +20,11 @@ use Rattle.head_walk.proofs.Waits.{line_at, lines_geos, lines_long, none_join, N
 use Rattle.search_plan.specs.Plans.{scope_of}
 
 -- the verdicts are those on the sets of some lines, over the bytes of the images where they are known
-abbrev pub Judged : Option (List (List ℕ)) → Plan → List Line → List Bool → Type 0
+abbrev pub Judged : Option (List (List ℕ)) → Plan → List Ranked → List Bool → Type 0
 Judged told plan waiting verdicts = IfSome told (λ bytes. verdicts ≡ verdicts_of bytes (scope_of plan) (map (λ line. line.geo) waiting))
 
 -- the first k of those that waited are tested
-pub record Passed (told : Option (List (List ℕ))) (plan : Plan) (from at : ℕ) (waiting : List Line) (verdicts : List Bool) (k : ℕ) (old lines : List Line) : Type 0 where
+pub record Passed (told : Option (List (List ℕ))) (plan : Plan) (from at : ℕ) (waiting : List Ranked) (verdicts : List Bool) (k : ℕ) (old lines : List Line) : Type 0 where
   pub tested : ℕ
   pub low : from ≤ tested
   pub adds : AddsRange told plan from tested old lines
@@ -32,7 +32,7 @@ pub record Passed (told : Option (List (List ℕ))) (plan : Plan) (from at : ℕ
   pub same : Judged told plan (drop k waiting) (drop k verdicts)
 
 -- before the first set
-pub none_passed : (told : Option (List (List ℕ))) (plan : Plan) (from at : ℕ) (waiting : List Line) (verdicts : List Bool) (lines : List Line) → Wait told plan from at waiting → Judged told plan waiting verdicts →
+pub none_passed : (told : Option (List (List ℕ))) (plan : Plan) (from at : ℕ) (waiting : List Ranked) (verdicts : List Bool) (lines : List Line) → Wait told plan from at waiting → Judged told plan waiting verdicts →
     Passed told plan from at waiting verdicts 0 lines lines
 none_passed told plan from at waiting verdicts lines wait judged = record {
   tested = from;
@@ -43,7 +43,7 @@ none_passed told plan from at waiting verdicts lines wait judged = record {
 }
 
 -- the next of them
-pub record IsNext (told : Option (List (List ℕ))) (plan : Plan) (tested at : ℕ) (waiting : List Line) (verdicts : List Bool) (k : ℕ) (line : Line) (verdict : Bool) : Type 0 where
+pub record IsNext (told : Option (List (List ℕ))) (plan : Plan) (tested at : ℕ) (waiting : List Ranked) (verdicts : List Bool) (k : ℕ) (line : Ranked) (verdict : Bool) : Type 0 where
   pub low : tested ≤ line.rank
   pub none : NonePass told plan tested line.rank
   pub is : IsCandidate told plan line
@@ -60,29 +60,29 @@ tails_are : (a b : Bool) (xs ys : List Bool) → a ∷ xs ≡ b ∷ ys → xs �
 tails_are a b xs ys e = search rules
 
 -- the first of those that wait
-wait_first : (told : Option (List (List ℕ))) (plan : Plan) (from at : ℕ) (line : Line) (lines : List Line) → Wait told plan from at (line ∷ lines) → (from ≤ line.rank) × NonePass told plan from line.rank × IsCandidate told plan line × Wait told plan (line.rank + 1) at lines
+wait_first : (told : Option (List (List ℕ))) (plan : Plan) (from at : ℕ) (line : Ranked) (lines : List Ranked) → Wait told plan from at (line ∷ lines) → (from ≤ line.rank) × NonePass told plan from line.rank × IsCandidate told plan line × Wait told plan (line.rank + 1) at lines
 unfolding Wait
 wait_first told plan from at line lines wait = wait
 
 -- those that wait after it
-pub next_of : (told : Option (List (List ℕ))) (plan : Plan) (from at : ℕ) (waiting : List Line) (verdicts : List Bool) (k : ℕ) (old lines : List Line) (d : Line) (e : Bool) → k < length waiting → length verdicts ≡ length waiting →
+pub next_of : (told : Option (List (List ℕ))) (plan : Plan) (from at : ℕ) (waiting : List Ranked) (verdicts : List Bool) (k : ℕ) (old lines : List Line) (d : Ranked) (e : Bool) → k < length waiting → length verdicts ≡ length waiting →
     (passed : Passed told plan from at waiting verdicts k old lines) → IsNext told plan passed.tested at waiting verdicts k (get_or waiting k d) (get_or verdicts k e)
 next_of told plan from at waiting verdicts k old lines d e below long passed =
     let here : drop k waiting ≡ get_or waiting k d ∷ drop (k + 1) waiting = drop_more waiting k d below in
     let there : drop k verdicts ≡ get_or verdicts k e ∷ drop (k + 1) verdicts = drop_more verdicts k e (omega arith) in
-    let P : List Line → Type 0 = λ l. Wait told plan passed.tested at l in
-    let Q : List Line → Type 0 = λ l. Judged told plan l (drop k verdicts) in
+    let P : List Ranked → Type 0 = λ l. Wait told plan passed.tested at l in
+    let Q : List Ranked → Type 0 = λ l. Judged told plan l (drop k verdicts) in
     let R : List Bool → Type 0 = λ l. Judged told plan (get_or waiting k d ∷ drop (k + 1) waiting) l in
     let first = wait_first told plan passed.tested at (get_or waiting k d) (drop (k + 1) waiting) (subst P here passed.rest) in
     let both = judged_first told (get_or waiting k d) (drop (k + 1) waiting) (get_or verdicts k e) (drop (k + 1) verdicts) first.2 (subst R there (subst Q here passed.same)) in
     record { low = first.0; none = first.1; is = first.2; rest = first.3; same = both.1; verdict_is = both.0 }
   where
-    judged_first : (known : Option (List (List ℕ))) (line : Line) (ls : List Line) (v : Bool) (vs : List Bool) → IsCandidate told plan line → Judged known plan (line ∷ ls) (v ∷ vs) →
+    judged_first : (known : Option (List (List ℕ))) (line : Ranked) (ls : List Ranked) (v : Bool) (vs : List Bool) → IsCandidate told plan line → Judged known plan (line ∷ ls) (v ∷ vs) →
         IfSome known (λ bytes. passes_at bytes plan line.rank ≡ v) × Judged known plan ls vs
     judged_first None line ls v vs is judged = (tt, tt)
     judged_first (Some bytes) line ls v vs is judged = (
-      candidate_passes bytes plan line told is ∙ sym (heads_are v (passes_parity bytes line.geo plan.end plan.limits.window plan.limits.badrows) vs (verdicts_of bytes (scope_of plan) (map (λ (l : Line). l.geo) ls)) judged),
-      tails_are v (passes_parity bytes line.geo plan.end plan.limits.window plan.limits.badrows) vs (verdicts_of bytes (scope_of plan) (map (λ (l : Line). l.geo) ls)) judged,
+      candidate_passes bytes plan line told is ∙ sym (heads_are v (passes_parity bytes line.geo plan.end plan.limits.window plan.limits.badrows) vs (verdicts_of bytes (scope_of plan) (map (λ (l : Ranked). l.geo) ls)) judged),
+      tails_are v (passes_parity bytes line.geo plan.end plan.limits.window plan.limits.badrows) vs (verdicts_of bytes (scope_of plan) (map (λ (l : Ranked). l.geo) ls)) judged,
     )
 
 -- one rank of which the set does not pass
@@ -96,7 +96,7 @@ verdict_as None plan rank a b e h = tt
 verdict_as (Some bytes) plan rank a b e h = h ∙ e
 
 -- one that does not pass
-one_fails : (told : Option (List (List ℕ))) (plan : Plan) (from at : ℕ) (waiting : List Line) (verdicts : List Bool) (k : ℕ) (old lines : List Line) (d : Line) (e : Bool) → k < length waiting → length verdicts ≡ length waiting →
+one_fails : (told : Option (List (List ℕ))) (plan : Plan) (from at : ℕ) (waiting : List Ranked) (verdicts : List Bool) (k : ℕ) (old lines : List Line) (d : Ranked) (e : Bool) → k < length waiting → length verdicts ≡ length waiting →
     get_or verdicts k e ≡ false → Passed told plan from at waiting verdicts k old lines → Passed told plan from at waiting verdicts (k + 1) old lines
 one_fails told plan from at waiting verdicts k old lines d e below long fails passed =
     let next = next_of told plan from at waiting verdicts k old lines d e below long passed in
@@ -114,37 +114,37 @@ one_fails told plan from at waiting verdicts k old lines d e below long fails pa
     }
 
 -- one more that has not passed
-pub any_fails : (told : Option (List (List ℕ))) (plan : Plan) (from at : ℕ) (waiting : List Line) (verdicts : List Bool) (k : ℕ) (old lines : List Line) (e : Bool) → k < length waiting → length verdicts ≡ length waiting →
+pub any_fails : (told : Option (List (List ℕ))) (plan : Plan) (from at : ℕ) (waiting : List Ranked) (verdicts : List Bool) (k : ℕ) (old lines : List Line) (e : Bool) → k < length waiting → length verdicts ≡ length waiting →
     get_or verdicts k e ≡ false → Passed told plan from at waiting verdicts k old lines → Passed told plan from at waiting verdicts (k + 1) old lines
 any_fails told plan from at [] verdicts k old lines e below long fails passed = absurd (omega arith)
 any_fails told plan from at (first ∷ waiting) verdicts k old lines e below long fails passed = one_fails told plan from at (first ∷ waiting) verdicts k old lines first e below long fails passed
 
 -- one that passes
-pub one_passes : (told : Option (List (List ℕ))) (plan : Plan) (from at : ℕ) (waiting : List Line) (verdicts : List Bool) (k : ℕ) (old lines : List Line) (d : Line) (e : Bool) → k < length waiting → length verdicts ≡ length waiting →
-    get_or verdicts k e ≡ true → Passed told plan from at waiting verdicts k old lines → Passed told plan from at waiting verdicts (k + 1) old (lines ++ get_or waiting k d ∷ [])
-one_passes told plan from at waiting verdicts k old lines d e below long passes passed =
+pub one_passes : (told : Option (List (List ℕ))) (plan : Plan) (from at : ℕ) (waiting : List Ranked) (verdicts : List Bool) (k : ℕ) (old lines : List Line) (d : Ranked) (line : Line) (e : Bool) → k < length waiting → length verdicts ≡ length waiting →
+    get_or verdicts k e ≡ true → IsLineOf (get_or waiting k d) line → Passed told plan from at waiting verdicts k old lines → Passed told plan from at waiting verdicts (k + 1) old (lines ++ line ∷ [])
+one_passes told plan from at waiting verdicts k old lines d line e below long passes is passed =
     let next = next_of told plan from at waiting verdicts k old lines d e below long passed in
     let low : passed.tested ≤ (get_or waiting k d).rank = next.low in
     let begun : from ≤ passed.tested = passed.low in
     record {
       tested = (get_or waiting k d).rank + 1;
       low = omega arith;
-      adds = adds_line told plan from passed.tested (get_or waiting k d) old lines passed.adds begun low next.none next.is.set
+      adds = adds_line told plan from passed.tested (get_or waiting k d) line old lines is passed.adds begun low next.none next.is.set
           (verdict_as told plan (get_or waiting k d).rank (get_or verdicts k e) true passes next.verdict_is);
       rest = next.rest;
       same = next.same;
     }
 
 -- the page is full with it
-pub fills_waiting : (told : Option (List (List ℕ))) (plan : Plan) (from at size : ℕ) (waiting : List Line) (verdicts : List Bool) (k : ℕ) (old lines : List Line) (d : Line) (e : Bool) → k < length waiting → length verdicts ≡ length waiting →
-    get_or verdicts k e ≡ true → length (lines ++ get_or waiting k d ∷ []) ≡ size → Passed told plan from at waiting verdicts k old lines →
-    AddsWaiting told plan from at size old (lines ++ get_or waiting k d ∷ []) (Some ((get_or waiting k d).rank + 1))
+pub fills_waiting : (told : Option (List (List ℕ))) (plan : Plan) (from at size : ℕ) (waiting : List Ranked) (verdicts : List Bool) (k : ℕ) (old lines : List Line) (d : Ranked) (line : Line) (e : Bool) → k < length waiting → length verdicts ≡ length waiting →
+    get_or verdicts k e ≡ true → IsLineOf (get_or waiting k d) line → length (lines ++ line ∷ []) ≡ size → Passed told plan from at waiting verdicts k old lines →
+    AddsWaiting told plan from at size old (lines ++ line ∷ []) (Some ((get_or waiting k d).rank + 1))
 unfolding one_passes
-fills_waiting told plan from at size waiting verdicts k old lines d e below long passes many passed =
+fills_waiting told plan from at size waiting verdicts k old lines d line e below long passes is many passed =
     let next = next_of told plan from at waiting verdicts k old lines d e below long passed in
     let low : passed.tested ≤ (get_or waiting k d).rank = next.low in
     let begun : from ≤ passed.tested = passed.low in
-    let all = one_passes told plan from at waiting verdicts k old lines d e below long passes passed in
+    let all = one_passes told plan from at waiting verdicts k old lines d line e below long passes is passed in
     let high : (get_or waiting k d).rank + 1 ≤ at = wait_within told plan ((get_or waiting k d).rank + 1) at (drop (k + 1) waiting) next.rest in
     let back : (get_or waiting k d).rank + 1 - 1 ≡ (get_or waiting k d).rank = omega arith in
     let P : ℕ → Type 0 = λ n. IfSome told (λ bytes. passes_at bytes plan n ≡ true) in
@@ -156,7 +156,7 @@ fills_waiting told plan from at size waiting verdicts k old lines d e below long
       many = many;
     }
   where
-    wait_within : (known : Option (List (List ℕ))) (p : Plan) (a b : ℕ) (ls : List Line) → Wait known p a b ls → a ≤ b
+    wait_within : (known : Option (List (List ℕ))) (p : Plan) (a b : ℕ) (ls : List Ranked) → Wait known p a b ls → a ≤ b
     wait_within known p a b [] wait = (wait_nothing known p a b wait).0
     wait_within known p a b (l ∷ ls) wait =
         let first = wait_first known p a b l ls wait in
@@ -165,21 +165,21 @@ fills_waiting told plan from at size waiting verdicts k old lines d e below long
         omega arith
 
 -- all of them are tested
-pub all_passed : (told : Option (List (List ℕ))) (plan : Plan) (from at size : ℕ) (waiting : List Line) (verdicts : List Bool) (k : ℕ) (old lines : List Line) → length waiting ≤ k → length lines < size →
+pub all_passed : (told : Option (List (List ℕ))) (plan : Plan) (from at size : ℕ) (waiting : List Ranked) (verdicts : List Bool) (k : ℕ) (old lines : List Line) → length waiting ≤ k → length lines < size →
     Passed told plan from at waiting verdicts k old lines → AddsWaiting told plan from at size old lines None
 all_passed told plan from at size waiting verdicts k old lines past few passed =
-    let P : List Line → Type 0 = λ l. Wait told plan passed.tested at l in
+    let P : List Ranked → Type 0 = λ l. Wait told plan passed.tested at l in
     let rest = wait_nothing told plan passed.tested at (subst P (drop_all waiting k past) passed.rest) in
     record { adds = adds_past told plan from passed.tested at old lines passed.adds passed.low rest.0 rest.1; few = few }
   where
-    drop_all : (ls : List Line) (n : ℕ) → length ls ≤ n → drop n ls ≡ []
+    drop_all : (ls : List Ranked) (n : ℕ) → length ls ≤ n → drop n ls ≡ []
     drop_all [] zero le = refl
     drop_all [] (suc n) le = refl
     drop_all (l ∷ ls) zero le = absurd (omega arith)
     drop_all (l ∷ ls) (suc n) le = drop_all ls n (omega arith)
 
 -- what is known of a page after those that waited were tested
-pub gathered_on : (told : Option (List (List ℕ))) (plan : Plan) (size at : ℕ) (old new : Gathered) (waiting : List Line) → Wait told plan old.tested at waiting → AddsAll told plan old.tested at size old.lines new.lines → new.tested ≡ at → NoneWaits new.waiting →
+pub gathered_on : (told : Option (List (List ℕ))) (plan : Plan) (size at : ℕ) (old new : Gathered) (waiting : List Ranked) → Wait told plan old.tested at waiting → AddsAll told plan old.tested at size old.lines new.lines → new.tested ≡ at → NoneWaits new.waiting →
     GoesOn told plan size at old new
 gathered_on told plan size at old new waiting wait adds tested none =
     let P : ℕ → Type 0 = λ n. AddsRange told plan old.tested n old.lines new.lines in
@@ -194,7 +194,7 @@ pub at_ok : {A E : Type 0} (P : A → Type 0) (r : Result A E) (x : A) → r ≡
 at_ok {A = A} {E = E} P r x e h = let Q : Result A E → Type 0 = λ s. IfOk s P in subst Q e h
 
 -- a page that goes on after a test
-pub gathers_none : (told : Option (List (List ℕ))) (plan : Plan) (size at : ℕ) (old new : Gathered) (lines waiting : List Line) (full : Option ℕ) → full ≡ None → new.lines ≡ lines → new.tested ≡ at → NoneWaits new.waiting → Wait told plan old.tested at waiting →
+pub gathers_none : (told : Option (List (List ℕ))) (plan : Plan) (size at : ℕ) (old new : Gathered) (lines : List Line) (waiting : List Ranked) (full : Option ℕ) → full ≡ None → new.lines ≡ lines → new.tested ≡ at → NoneWaits new.waiting → Wait told plan old.tested at waiting →
     AddsWaiting told plan old.tested at size old.lines lines full → Gathers told plan size at old new full
 gathers_none told plan size at old new lines waiting full none same tested empty wait added =
     let P : Option ℕ → Type 0 = λ o. AddsWaiting told plan old.tested at size old.lines lines o in
@@ -209,7 +209,7 @@ gathers_some told plan size at old new lines None some same added = absurd (cc)
 gathers_some told plan size at old new lines (Some next) some same added = let Q : List Line → Type 0 = λ l. FillsPage told plan old.tested at size next old.lines l in subst Q (sym same) added
 
 -- verdicts on the sets of these lines
-pub judged_lines : (told : Option (List (List ℕ))) (plan : Plan) (ranks : List ℕ) (sets : List Geometry) (verdicts : List Bool) → length ranks ≡ length sets → IfSome told (λ bytes. verdicts ≡ verdicts_of bytes (scope_of plan) sets) → Judged told plan (lines_of ranks sets) verdicts
+pub judged_lines : (told : Option (List (List ℕ))) (plan : Plan) (ranks : List ℕ) (sets : List Geometry) (verdicts : List Bool) → length ranks ≡ length sets → IfSome told (λ bytes. verdicts ≡ verdicts_of bytes (scope_of plan) sets) → Judged told plan (ranked_sets ranks sets) verdicts
 judged_lines told plan ranks sets verdicts same judged =
     let P : List Geometry → Type 0 = λ l. IfSome told (λ bytes. verdicts ≡ verdicts_of bytes (scope_of plan) l) in
     subst P (sym (lines_geos ranks sets same)) judged
@@ -219,8 +219,8 @@ pub record Adds (size : ℕ) (waiting : Waiting) (k : ℕ) (old lines : List Lin
   pub few : length lines < size
   pub slow : length lines ≤ length old + k
   pub grown : (known : ℕ) → HavePassed known waiting.tallies.items → length old + min k known ≤ length lines
-  pub passed : (told : Option (List (List ℕ))) (plan : Plan) (from at : ℕ) → Wait told plan from at (lines_of waiting.ranks waiting.sets) → Judged told plan (lines_of waiting.ranks waiting.sets) (map has_passed waiting.tallies.items) →
-      Passed told plan from at (lines_of waiting.ranks waiting.sets) (map has_passed waiting.tallies.items) k old lines
+  pub passed : (told : Option (List (List ℕ))) (plan : Plan) (from at : ℕ) → Wait told plan from at (ranked_sets waiting.ranks waiting.sets) → Judged told plan (ranked_sets waiting.ranks waiting.sets) (map has_passed waiting.tallies.items) →
+      Passed told plan from at (ranked_sets waiting.ranks waiting.sets) (map has_passed waiting.tallies.items) k old lines
 
 -- before the first set
 pub adds_begin : (size : ℕ) (waiting : Waiting) (lines : List Line) → length lines < size → Adds size waiting 0 lines lines
@@ -228,7 +228,7 @@ adds_begin size waiting lines few = record {
   few = few;
   slow = omega arith;
   grown = λ known have. omega arith;
-  passed = λ told plan from at wait judged. none_passed told plan from at (lines_of waiting.ranks waiting.sets) (map has_passed waiting.tallies.items) lines wait judged;
+  passed = λ told plan from at wait judged. none_passed told plan from at (ranked_sets waiting.ranks waiting.sets) (map has_passed waiting.tallies.items) lines wait judged;
 }
 
 -- what stands at a place
@@ -236,17 +236,17 @@ verdict_at : (waiting : Waiting) (k : ℕ) (t : Tally) (b : Bool) → k < length
 verdict_at waiting k t b below is = get_or-map has_passed waiting.tallies.items k t false below ∙ is
 
 -- a set by its place
-item_at : (waiting : Waiting) (k : ℕ) (item : Line) (d : Line) → length waiting.ranks ≡ length waiting.sets → k < length waiting.sets → item.rank ≡ get_or waiting.ranks k 0 → item.geo ≡ get_or waiting.sets k item.geo →
-    get_or (lines_of waiting.ranks waiting.sets) k d ≡ item
+item_at : (waiting : Waiting) (k : ℕ) (item : Ranked) (d : Ranked) → length waiting.ranks ≡ length waiting.sets → k < length waiting.sets → item.rank ≡ get_or waiting.ranks k 0 → item.geo ≡ get_or waiting.sets k item.geo →
+    get_or (ranked_sets waiting.ranks waiting.sets) k d ≡ item
 item_at waiting k item d same below rank geo =
     line_at waiting.ranks waiting.sets k d 0 item.geo same below
-    ∙ ap₂ (λ (r : ℕ) (g : Geometry). let l : Line = record { rank = r; geo = g } in l) (sym rank) (sym geo)
+    ∙ ap₂ (λ (r : ℕ) (g : Geometry). let l : Ranked = record { rank = r; geo = g } in l) (sym rank) (sym geo)
 
 -- one that has passed
-pub adds_pass : (size : ℕ) (waiting : Waiting) (k : ℕ) (old lines new : List Line) (item : Line) (t : Tally) → length waiting.ranks ≡ length waiting.sets → length waiting.tallies.items ≡ length waiting.sets → k < length waiting.sets →
-    has_passed (get_or waiting.tallies.items k t) ≡ true → item.rank ≡ get_or waiting.ranks k 0 → item.geo ≡ get_or waiting.sets k item.geo → new ≡ lines ++ item ∷ [] → length new ≢ size → Adds size waiting k old lines → Adds size waiting (k + 1) old new
-adds_pass size waiting k old lines new item t same count below has rank geo is other adds =
-    let long = ap length is ∙ length-append lines (item ∷ []) in
+pub adds_pass : (size : ℕ) (waiting : Waiting) (k : ℕ) (old lines new : List Line) (item : Ranked) (line : Line) (t : Tally) → length waiting.ranks ≡ length waiting.sets → length waiting.tallies.items ≡ length waiting.sets → k < length waiting.sets →
+    has_passed (get_or waiting.tallies.items k t) ≡ true → item.rank ≡ get_or waiting.ranks k 0 → item.geo ≡ get_or waiting.sets k item.geo → IsLineOf item line → new ≡ lines ++ line ∷ [] → length new ≢ size → Adds size waiting k old lines → Adds size waiting (k + 1) old new
+adds_pass size waiting k old lines new item line t same count below has rank geo made is other adds =
+    let long = ap length is ∙ length-append lines (line ∷ []) in
     let few = adds.few in
     let slow = adds.slow in
     let all = lines_long waiting.ranks waiting.sets same in
@@ -257,10 +257,10 @@ adds_pass size waiting k old lines new item t same count below has rank geo is o
       slow = omega arith;
       grown = λ known have. let so_far = adds.grown known have in omega arith;
       passed = λ told plan from at wait judged.
-          let P : List Line → Type 0 = λ l. Passed told plan from at (lines_of waiting.ranks waiting.sets) (map has_passed waiting.tallies.items) (k + 1) old l in
-          subst P (ap (λ (l : Line). lines ++ l ∷ []) here ∙ sym is)
-          (one_passes told plan from at (lines_of waiting.ranks waiting.sets) (map has_passed waiting.tallies.items) k old lines item false (omega arith) (omega arith)
-          (verdict_at waiting k t true (omega arith) has) (adds.passed told plan from at wait judged));
+          let P : List Line → Type 0 = λ l. Passed told plan from at (ranked_sets waiting.ranks waiting.sets) (map has_passed waiting.tallies.items) (k + 1) old l in
+          subst P (sym is)
+          (one_passes told plan from at (ranked_sets waiting.ranks waiting.sets) (map has_passed waiting.tallies.items) k old lines item line false (omega arith) (omega arith)
+          (verdict_at waiting k t true (omega arith) has) (subst (λ (r : Ranked). IsLineOf r line) (sym here) made) (adds.passed told plan from at wait judged));
     }
 
 -- one that has not
@@ -280,30 +280,29 @@ adds_fail size waiting k old lines new t same count below fails is adds =
         | inr more ↦ (let so_far = adds.grown known have in omega arith)
       ];
       passed = λ told plan from at wait judged.
-          let P : List Line → Type 0 = λ l. Passed told plan from at (lines_of waiting.ranks waiting.sets) (map has_passed waiting.tallies.items) (k + 1) old l in
+          let P : List Line → Type 0 = λ l. Passed told plan from at (ranked_sets waiting.ranks waiting.sets) (map has_passed waiting.tallies.items) (k + 1) old l in
           subst P (sym is)
-          (any_fails told plan from at (lines_of waiting.ranks waiting.sets) (map has_passed waiting.tallies.items) k old lines false (omega arith) (omega arith)
+          (any_fails told plan from at (ranked_sets waiting.ranks waiting.sets) (map has_passed waiting.tallies.items) k old lines false (omega arith) (omega arith)
           (verdict_at waiting k t false (omega arith) fails) (adds.passed told plan from at wait judged));
     }
 
 -- the page is full with it
-pub adds_full : (size : ℕ) (waiting : Waiting) (k rank : ℕ) (old lines new : List Line) (item : Line) (t : Tally) → length waiting.ranks ≡ length waiting.sets → length waiting.tallies.items ≡ length waiting.sets → k < length waiting.sets →
-    has_passed (get_or waiting.tallies.items k t) ≡ true → item.rank ≡ get_or waiting.ranks k 0 → item.geo ≡ get_or waiting.sets k item.geo → new ≡ lines ++ item ∷ [] → length new ≡ size → rank ≡ item.rank → Adds size waiting k old lines →
+pub adds_full : (size : ℕ) (waiting : Waiting) (k rank : ℕ) (old lines new : List Line) (item : Ranked) (line : Line) (t : Tally) → length waiting.ranks ≡ length waiting.sets → length waiting.tallies.items ≡ length waiting.sets → k < length waiting.sets →
+    has_passed (get_or waiting.tallies.items k t) ≡ true → item.rank ≡ get_or waiting.ranks k 0 → item.geo ≡ get_or waiting.sets k item.geo → IsLineOf item line → new ≡ lines ++ line ∷ [] → length new ≡ size → rank ≡ item.rank → Adds size waiting k old lines →
     AddsPassed size waiting old new (Some (rank + 1))
-adds_full size waiting k rank old lines new item t same count below has rank_is geo is full ranked adds =
-    let long = ap length is ∙ length-append lines (item ∷ []) in
+adds_full size waiting k rank old lines new item line t same count below has rank_is geo made is full ranked adds =
+    let long = ap length is ∙ length-append lines (line ∷ []) in
     let slow = adds.slow in
     let all = lines_long waiting.ranks waiting.sets same in
     let marks = length-map waiting.tallies.items has_passed in
     let here = item_at waiting k item item same below rank_is geo in
-    let appended : lines ++ get_or (lines_of waiting.ranks waiting.sets) k item ∷ [] ≡ new = ap (λ (l : Line). lines ++ l ∷ []) here ∙ sym is in
     record {
       added = λ told plan from at wait judged.
           let P : List Line → Type 0 = λ l. AddsWaiting told plan from at size old l (Some (rank + 1)) in
-          let Q : ℕ → Type 0 = λ n. AddsWaiting told plan from at size old (lines ++ get_or (lines_of waiting.ranks waiting.sets) k item ∷ []) (Some (n + 1)) in
-          subst P appended (subst Q (ap (λ (l : Line). l.rank) here ∙ sym ranked)
-          (fills_waiting told plan from at size (lines_of waiting.ranks waiting.sets) (map has_passed waiting.tallies.items) k old lines item false (omega arith) (omega arith)
-          (verdict_at waiting k t true (omega arith) has) (ap length appended ∙ full)
+          let Q : ℕ → Type 0 = λ n. AddsWaiting told plan from at size old (lines ++ line ∷ []) (Some (n + 1)) in
+          subst P (sym is) (subst Q (ap (λ (l : Ranked). l.rank) here ∙ sym ranked)
+          (fills_waiting told plan from at size (ranked_sets waiting.ranks waiting.sets) (map has_passed waiting.tallies.items) k old lines item line false (omega arith) (omega arith)
+          (verdict_at waiting k t true (omega arith) has) (subst (λ (r : Ranked). IsLineOf r line) (sym here) made) (sym (ap length is) ∙ full)
           (adds.passed told plan from at wait (judged_lines told plan waiting.ranks waiting.sets (map has_passed waiting.tallies.items) same judged))));
       fills = λ known most have enough. refl;
       past = λ known few. record {
@@ -321,19 +320,19 @@ adds_end size waiting k old lines same past adds =
     let all = lines_long waiting.ranks waiting.sets same in
     record {
       added = λ told plan from at wait judged.
-          all_passed told plan from at size (lines_of waiting.ranks waiting.sets) (map has_passed waiting.tallies.items) k old lines (omega arith) few
+          all_passed told plan from at size (ranked_sets waiting.ranks waiting.sets) (map has_passed waiting.tallies.items) k old lines (omega arith) few
           (adds.passed told plan from at wait (judged_lines told plan waiting.ranks waiting.sets (map has_passed waiting.tallies.items) same judged));
       fills = λ known most have enough. absurd (let so_far = adds.grown known have in omega arith);
       past = tt;
     }
 
 -- what was added of those that waited before a scan
-pub waiting_added : (told : Option (List (List ℕ))) (plan : Plan) (from at size : ℕ) (before after : Waiting) (old new : List Line) (full : Option ℕ) → after.ranks ≡ before.ranks → after.sets ≡ before.sets → Wait told plan from at (lines_of before.ranks before.sets) →
+pub waiting_added : (told : Option (List (List ℕ))) (plan : Plan) (from at size : ℕ) (before after : Waiting) (old new : List Line) (full : Option ℕ) → after.ranks ≡ before.ranks → after.sets ≡ before.sets → Wait told plan from at (ranked_sets before.ranks before.sets) →
     IfSome told (λ bytes. map has_passed after.tallies.items ≡ verdicts_of bytes (scope_of plan) before.sets) → AddsPassed size after old new full → AddsWaiting told plan from at size old new full
 waiting_added told plan from at size before after old new full ranks sets wait judged adds =
-    let P : List Line → Type 0 = λ l. Wait told plan from at l in
+    let P : List Ranked → Type 0 = λ l. Wait told plan from at l in
     let Q : List Geometry → Type 0 = λ l. IfSome told (λ bytes. map has_passed after.tallies.items ≡ verdicts_of bytes (scope_of plan) l) in
-    adds.added told plan from at (subst P (sym (ap₂ lines_of ranks sets)) wait) (subst Q (sym sets) judged)
+    adds.added told plan from at (subst P (sym (ap₂ ranked_sets ranks sets)) wait) (subst Q (sym sets) judged)
 
 -- where the page was full
 pub waiting_past : (before after : Waiting) (lines size : ℕ) (full : Option ℕ) → after.ranks ≡ before.ranks → IfSome full (λ next. (known : ℕ) → lines + known < size → IsPast after.ranks known next) →

@@ -1,15 +1,16 @@
 -- Sets appended range by range.
-use Rattle.std.proofs.Common.{◌≡◌, ℕ, zero, suc, ◌+◌, ◌-◌, ◌<◌, ◌≤◌, Bool, true, false, List, [], ◌∷◌, ◌++◌, map, refl, sym, ap, ◌∙◌, arith, append_assoc, append-nil, IfSome, Option, Some, None, inl, inr, slice_get, All}
+use Rattle.std.proofs.Common.{◌≡◌, ℕ, zero, suc, ◌+◌, ◌-◌, ◌<◌, ◌≤◌, Bool, true, false, List, [], ◌∷◌, ◌++◌, map, refl, sym, ap, ap₂, ◌∙◌, arith, append_assoc, append-nil, IfSome, Option, Some, None, inl, inr, slice_get, All}
 use Rattle.std.proofs.lemmas.Bool.{cases_Bool}
 use Rattle.std.proofs.lemmas.List.Elements.{All-append, All-cons, All-nil}
 use Rattle.std.proofs.lemmas.List.{map-append}
 use Rattle.search_terms.specs.Page.{passing}
 use Rattle.search_terms.proofs.Pages.{passing-split}
 use Rattle.plan_sets.specs.Sets.{passes_at, sets_of}
+use Rattle.raid_params.specs.declared.types.Geometry.{Geometry}
 use Rattle.search_plan.specs.declared.plan.Plan.{Plan}
 use Rattle.set_product.specs.declared.heads.HeadSets.{HeadSets}
 use Rattle.candidate_enum.specs.Survivors.{all_admitted, question}
-use Rattle.head_walk.specs.Walk.{HoldsSet, AddsRange, IsHeadOf, LeavesOutNone, NonePass}
+use Rattle.head_walk.specs.Walk.{HoldsSet, AddsRange, IsHeadOf, IsLineOf, LeavesOutNone, NonePass, Ranked}
 use Rattle.head_walk.specs.declared.parts.Line.{Line}
 use Rattle.head_walk.proofs.Leaves.{Refused}
 use Rattle.page_loop.proofs.RankByRank.{passes_more, passes_not}
@@ -49,21 +50,23 @@ adds_past (Some bytes) plan from a b old new adds low high none =
     }
 
 -- a set that passes, after ranks of which none does
-pub adds_line : (told : Option (List (List ℕ))) (plan : Plan) (from a : ℕ) (line : Line) (old mid : List Line) → AddsRange told plan from a old mid → from ≤ a → a ≤ line.rank → NonePass told plan a line.rank → HoldsSet plan line →
-    IfSome told (λ bytes. passes_at bytes plan line.rank ≡ true) → AddsRange told plan from (line.rank + 1) old (mid ++ line ∷ [])
-adds_line told plan from a line old mid adds low high none set passes = with_it told passes (adds_past told plan from a line.rank old mid adds low high none)
+pub adds_line : (told : Option (List (List ℕ))) (plan : Plan) (from a : ℕ) (set : Ranked) (line : Line) (old mid : List Line) → IsLineOf set line → AddsRange told plan from a old mid → from ≤ a → a ≤ set.rank → NonePass told plan a set.rank →
+    slice_get (sets_of plan) set.rank ≡ Some set.geo → IfSome told (λ bytes. passes_at bytes plan set.rank ≡ true) → AddsRange told plan from (set.rank + 1) old (mid ++ line ∷ [])
+adds_line told plan from a set line old mid is adds low high none there passes = with_it told passes (adds_past told plan from a set.rank old mid adds low high none)
   where
     still : (All (HoldsSet plan) old → All (HoldsSet plan) mid) → All (HoldsSet plan) old → All (HoldsSet plan) (mid ++ line ∷ [])
-    still keeps all = All-append (HoldsSet plan) mid (line ∷ []) (keeps all) (All-cons (HoldsSet plan) line [] set (All-nil (HoldsSet plan)))
+    still keeps all =
+        All-append (HoldsSet plan) mid (line ∷ []) (keeps all)
+        (All-cons (HoldsSet plan) line [] (ap (slice_get (sets_of plan)) is.rank ∙ there ∙ sym (ap (λ (geo : Geometry). Some geo) is.geo), is.bases) (All-nil (HoldsSet plan)))
 
-    with_it : (known : Option (List (List ℕ))) → IfSome known (λ bytes. passes_at bytes plan line.rank ≡ true) → AddsRange known plan from line.rank old mid → AddsRange known plan from (line.rank + 1) old (mid ++ line ∷ [])
+    with_it : (known : Option (List (List ℕ))) → IfSome known (λ bytes. passes_at bytes plan set.rank ≡ true) → AddsRange known plan from set.rank old mid → AddsRange known plan from (set.rank + 1) old (mid ++ line ∷ [])
     with_it None passing_it all = record { lines = tt; sets = still all.sets }
     with_it (Some bytes) passing_it all = record {
       lines =
           map-append (λ (held : Line). held.rank) mid (line ∷ [])
-          ∙ ap (λ (xs : List ℕ). xs ++ line.rank ∷ []) all.lines
-          ∙ append_assoc (ranks old) (passing (passes_at bytes plan) from line.rank) (line.rank ∷ [])
-          ∙ ap (λ (xs : List ℕ). ranks old ++ xs) (sym (passes_more (passes_at bytes plan) from line.rank (omega arith) passing_it));
+          ∙ ap₂ (λ (xs : List ℕ) (n : ℕ). xs ++ n ∷ []) all.lines is.rank
+          ∙ append_assoc (ranks old) (passing (passes_at bytes plan) from set.rank) (set.rank ∷ [])
+          ∙ ap (λ (xs : List ℕ). ranks old ++ xs) (sym (passes_more (passes_at bytes plan) from set.rank (omega arith) passing_it));
       sets = still all.sets;
     }
 

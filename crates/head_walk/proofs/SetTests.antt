@@ -14,8 +14,7 @@ use Rattle.parity_scan.specs.Scan.{IsScannable}
 use Rattle.search_plan.specs.Plans.{IsPlan, AgreeWith}
 use Rattle.search_plan.specs.declared.plan.Plan.{Plan}
 use Rattle.plan_sets.specs.Sets.{passes, passes_at, sets_of}
-use Rattle.head_walk.specs.Walk.{IsCandidate}
-use Rattle.head_walk.specs.declared.parts.Line.{Line}
+use Rattle.head_walk.specs.Walk.{IsCandidate, Ranked}
 use Rattle.set_product.proofs.Shaped.{set_at, shaped_set}
 
 -- a test beside one that holds
@@ -77,7 +76,7 @@ no_row (Some bytes) plan rank geo e none =
     ∙ ap (λ (n : ℕ). nat_le 1 n && (passes_parity bytes geo plan.end plan.limits.window plan.limits.badrows && groups_hold geo plan.end plan.tests plan.groups)) none)
 
 -- a candidate passes where the parity test holds
-pub candidate_passes : (bytes : List (List ℕ)) (plan : Plan) (line : Line) (told : Option (List (List ℕ))) → IsCandidate told plan line → passes_at bytes plan line.rank ≡ passes_parity bytes line.geo plan.end plan.limits.window plan.limits.badrows
+pub candidate_passes : (bytes : List (List ℕ)) (plan : Plan) (line : Ranked) (told : Option (List (List ℕ))) → IsCandidate told plan line → passes_at bytes plan line.rank ≡ passes_parity bytes line.geo plan.end plan.limits.window plan.limits.badrows
 candidate_passes bytes plan line told is =
     passes_as bytes plan line.rank line.geo is.set
     ∙ ap₂ (λ (a b : Bool). a && (passes_parity bytes line.geo plan.end plan.limits.window plan.limits.badrows && b)) (le-leb 1 (rows line.geo.head plan.end) is.row) is.groups

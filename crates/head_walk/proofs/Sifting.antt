@@ -1,28 +1,18 @@
 -- What tables and rows pass over fails.
-use Rattle.std.proofs.Common.{rules, ℕ, zero, suc, ◌≡◌, ◌<◌, ◌≤◌, ◌+◌, ◌-◌, Bool, true, false, not, ◌&&◌, ◌==◌, cond, get_or, nat_le, nat_lt, List, [], ◌∷◌, length, take, filter, refl, sym, ap, ap₂, ◌∙◌, arith, Option, Some, None, IfSome, IfOk, Result, Ok, Err, All, slice_get, inl, inr, subst, Contains}
+use Rattle.std.proofs.Common.{ℕ, zero, suc, ◌≡◌, ◌+◌, ◌-◌, Bool, true, false, ◌&&◌, List, [], length, take, refl, sym, ap, ap₂, ◌∙◌, arith, Option, Some, None, IfSome, IfOk, Result, Ok, Err, All, slice_get, inl, inr, subst}
 use Rattle.std.specs.List.{list_all, range_with_len}
-use Rattle.std.specs.Option.{is_some, option_map, option_map_or}
+use Rattle.std.specs.Option.{is_some}
 use Rattle.std.specs.Iterator.{YieldsFirst}
-use Rattle.std.proofs.lemmas.Bool.{and_parts, cases_Bool, eqb-true}
-use Rattle.std.proofs.lemmas.Bool.Decides.{nat_tests}
-use Rattle.std.proofs.lemmas.List.Elements.{All-from_recursion, Contains-get_or}
-use Rattle.std.proofs.lemmas.Option.{slice_get-get_or}
+use Rattle.std.proofs.lemmas.Bool.{and_parts, cases_Bool}
 use Rattle.raid_params.specs.Size.{rows}
-use Rattle.raid_params.specs.Validity.{is_shaped, is_valid_head}
-use Rattle.raid_params.specs.declared.types.Geometry.{Geometry}
+use Rattle.raid_params.specs.Validity.{is_valid_head}
 use Rattle.raid_params.specs.declared.types.Head.{Head}
-use Rattle.raid_terms.specs.Parity.{passes_parity}
-use Rattle.landmark_rules.specs.Groups.{groups_hold}
-use Rattle.search_plan.specs.Plans.{IsPlan, scope_of}
-use Rattle.plan_sets.specs.Sets.{passes, passes_at, sets_of}
+use Rattle.search_plan.specs.Plans.{IsPlan}
+use Rattle.plan_sets.specs.Sets.{passes_at, sets_of}
 use Rattle.search_plan.specs.declared.plan.Plan.{Plan}
 use Rattle.set_product.specs.declared.heads.HeadSets.{HeadSets}
-use Rattle.set_product.proofs.Shaped.{set_at}
-use Rattle.slot_math.specs.Space.{begins, lists_of, same_place}
-use Rattle.slot_math.specs.Ways.{AllImages}
+use Rattle.slot_math.specs.Space.{lists_of}
 use Rattle.slot_math.specs.declared.space.Space.{Space}
-use Rattle.slot_math.proofs.Listed.{each_kept, each_list, each_more}
-use Rattle.search_terms.specs.SlotLists.{all_lists, is_kept}
 use Rattle.candidate_enum.specs.Left.{Left}
 use Rattle.candidate_enum.specs.declared.leaf.Leaf.{Leaf}
 use Rattle.candidate_enum.specs.Survivors.{admitted_leaves, all_admitted, question}

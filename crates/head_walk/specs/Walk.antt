@@ -1,11 +1,11 @@
 -- A walk over the slot lists of a head that are admitted, and the page that it makes.
-use Rattle.std.specs.Prelude.{ℕ, Result, Ok, Err, ◌≡◌, ◌+◌, ◌-◌, ◌*◌, ◌<◌, ◌≤◌, ◌^◌, ◌==◌, ◌⊎◌, Bool, true, false, not, ◌&&◌, ◌||◌, if◌then◌else◌, IfSome, MatchOption, List, [], ◌∷◌, ◌++◌, length, map, slice_get, sum_by, All, Contains}
+use Rattle.std.specs.Prelude.{ℕ, Result, Ok, Err, ◌≡◌, ◌+◌, ◌-◌, ◌*◌, ◌<◌, ◌≤◌, ◌^◌, ◌==◌, ◌⊎◌, Bool, true, false, ◌&&◌, ◌||◌, if◌then◌else◌, IfSome, MatchOption, List, [], ◌∷◌, ◌++◌, length, map, slice_get, sum_by, All, Contains}
 use Rattle.std.specs.List.{list_any, slice_index, slice_index_or}
 use Rattle.std.specs.Option.{is_some, option_map_or}
 use Rattle.std.specs.declared.option.Option.{Option}
 use Rattle.std.specs.declared.option.Option.TheVariants.{None, Some}
 use Rattle.raid_params.specs.Size.{rows}
-use Rattle.raid_params.specs.Validity.{is_shaped, is_valid_head}
+use Rattle.raid_params.specs.Validity.{is_valid_head}
 use Rattle.raid_params.specs.declared.types.Bounds.{Bounds}
 use Rattle.raid_params.specs.declared.types.Geometry.{Geometry}
 use Rattle.raid_params.specs.declared.types.Head.{Head}
@@ -25,7 +25,7 @@ use Rattle.prune_filters.specs.Early.{AreEarlyTables}
 use Rattle.prune_filters.specs.Hopeful.{is_hopeful_by}
 use Rattle.prune_filters.specs.Paces.{paces_of}
 use Rattle.prune_filters.specs.Rows.{needs_samples, needs_table}
-use Rattle.prune_filters.specs.Xors.{most_tested, RowTable}
+use Rattle.prune_filters.specs.Xors.{RowTable}
 use Rattle.relation_prefix.specs.declared.sampled.SampledRow.{SampledRow}
 use Rattle.row_samples.specs.Rows.{AreImageRows}
 use Rattle.head_walk.specs.Relations.{lets_begin, test_of}
@@ -39,9 +39,20 @@ use Rattle.head_walk.specs.declared.parts.Line.{Line}
 use Rattle.head_walk.specs.declared.row_tables.OffsetTables.{OffsetTables}
 use Rattle.head_walk.specs.declared.parts.WalkFault.{WalkFault}
 
--- the line holds the set of its rank
+-- a set with its rank
+pub record Ranked : Type 0 where
+  pub rank : ℕ
+  pub geo : Geometry
+
+-- the line of a set, over images with a common offset
+pub record IsLineOf (set : Ranked) (line : Line) : Type 0 where
+  pub rank : line.rank ≡ set.rank
+  pub geo : line.geo.geo ≡ set.geo
+  pub bases : line.geo.bases.items ≡ []
+
+-- the line holds the set of its rank, and no bases
 abbrev pub HoldsSet : Plan → Line → Type 0
-HoldsSet plan held = slice_get (sets_of plan) held.rank ≡ Some held.geo
+HoldsSet plan held = (slice_get (sets_of plan) held.rank ≡ Some held.geo.geo) × (held.geo.bases.items ≡ [])
 
 -- pages of the sets of a plan can be made over these images: the plan makes sense, its ranks are numbers of 64 bits, a page has
 -- a line at least, and the images have the lengths of the plan
@@ -134,8 +145,8 @@ pub record Spends (before after : ℕ) (old new : Seen) (sectors : ℕ) : Type 0
   pub reads : OnlyReads old new (before - after + sectors)
 
 -- a set that passes where it meets the parity test: there is a whole row, and the landmark test is met; and it is hopeful
-pub record IsCandidate (told : Option (List (List ℕ))) (plan : Plan) (line : Line) : Type 0 where
-  pub set : HoldsSet plan line
+pub record IsCandidate (told : Option (List (List ℕ))) (plan : Plan) (line : Ranked) : Type 0 where
+  pub set : slice_get (sets_of plan) line.rank ≡ Some line.geo
   pub among : IsAmong plan.bounds line.geo.head
   pub row : 1 ≤ rows line.geo.head plan.end
   pub groups : groups_hold line.geo plan.end plan.tests plan.groups ≡ true
@@ -157,14 +168,14 @@ abbrev pub NonePass : Option (List (List ℕ)) → Plan → ℕ → ℕ → Type
 NonePass told plan from to = IfSome told (λ bytes. (rank : ℕ) → from ≤ rank → rank < to → passes_at bytes plan rank ≡ false)
 
 -- of the ranks from one up to another these candidates wait, in their order, and no other set passes
-unfoldable pub Wait : Option (List (List ℕ)) → Plan → ℕ → ℕ → List Line → Type 0
+unfoldable pub Wait : Option (List (List ℕ)) → Plan → ℕ → ℕ → List Ranked → Type 0
 Wait told plan from to [] = (from ≤ to) × NonePass told plan from to
 Wait told plan from to (line ∷ lines) = (from ≤ line.rank) × NonePass told plan from line.rank × IsCandidate told plan line × Wait told plan (line.rank + 1) to lines
 
 -- sets with their ranks
-unfoldable pub lines_of : List ℕ → List Geometry → List Line
-lines_of (rank ∷ ranks) (geo ∷ sets) = record { rank = rank; geo = geo } ∷ lines_of ranks sets
-lines_of ranks sets = []
+unfoldable pub ranked_sets : List ℕ → List Geometry → List Ranked
+ranked_sets (rank ∷ ranks) (geo ∷ sets) = record { rank = rank; geo = geo } ∷ ranked_sets ranks sets
+ranked_sets ranks sets = []
 
 -- the tally with which the test of a set begins
 abbrev pub first_tally : Plan → Geometry → Tally
@@ -185,7 +196,7 @@ pub record AreWaiting (plan : Plan) (waiting : Waiting) : Type 0 where
 -- before this one each set that may pass is among its lines or waits
 pub record StandsAt (told : Option (List (List ℕ))) (plan : Plan) (size at : ℕ) (page : Gathered) : Type 0 where
   pub are : AreWaiting plan page.waiting
-  pub wait : Wait told plan page.tested at (lines_of page.waiting.ranks page.waiting.sets)
+  pub wait : Wait told plan page.tested at (ranked_sets page.waiting.ranks page.waiting.sets)
   pub few : length page.lines + page.waiting.known < size
   pub room : length page.waiting.sets < 4096
 
@@ -242,7 +253,7 @@ pub record IsPast (ranks : List ℕ) (known next : ℕ) : Type 0 where
 -- of the sets that waited those that have passed were appended, as long as the page was not full: so it is full where the
 -- first of them, which have all passed, fill it; and it is full no earlier than `known` of them could fill it
 pub record AddsPassed (size : ℕ) (waiting : Waiting) (old new : List Line) (full : Option ℕ) : Type 0 where
-  pub added : (told : Option (List (List ℕ))) (plan : Plan) (from at : ℕ) → Wait told plan from at (lines_of waiting.ranks waiting.sets) →
+  pub added : (told : Option (List (List ℕ))) (plan : Plan) (from at : ℕ) → Wait told plan from at (ranked_sets waiting.ranks waiting.sets) →
       IfSome told (λ bytes. map has_passed waiting.tallies.items ≡ verdicts_of bytes (scope_of plan) waiting.sets) → AddsWaiting told plan from at size old new full
   pub fills : (known : ℕ) → known ≤ length waiting.sets → HavePassed known waiting.tallies.items → size ≤ length old + known → is_some full ≡ true
   pub past : IfSome full (λ next. (known : ℕ) → length old + known < size → IsPast waiting.ranks known next)

@@ -5,7 +5,7 @@ ghost use Rattle.head_walk.specs.declared.parts.WalkFault.TheVariants.{Memory as
 
 use outside::{ListOf, Memory};
 use prune_filters::TableFault;
-use raid_params::Geometry;
+use raid_params::Wide;
 use row_samples::SampleFault;
 use row_scan::ScanFault;
 use search_plan::Plan;
@@ -33,7 +33,7 @@ pub struct Line {
     /// Its position among the parameter sets of the plan, counted from 0.
     pub rank: u64,
     /// The parameter set.
-    pub geo: Geometry,
+    pub geo: Wide,
 }
 
 /// The lines of a page.

@@ -8,13 +8,14 @@ ghost use Rattle.parity_scan.specs.Tallies.{has_passed as has_passed_tally};
 ghost use Rattle.parity_scan.specs.Verdicts.{verdicts_of};
 ghost use Rattle.head_walk.specs.Faults.{EndsTest};
 ghost use Rattle.head_walk.specs.Counts.{most_scanned};
-ghost use Rattle.head_walk.specs.Walk.{AddsPassed, AreWaiting, CanPage, ended_at, Finishes, Gathers, HavePassed, IsCandidate, IsPast, lines_of, ReadsRange, StandsAt, Wait};
+ghost use Rattle.head_walk.specs.Walk.{AddsPassed, AreWaiting, CanPage, ended_at, Finishes, Gathers, HavePassed, IsCandidate, IsLineOf, IsPast, Ranked, ranked_sets, ReadsRange, StandsAt, Wait};
 
 use crate::gathering::Gathered;
 use crate::parts::{Line, Lines, Paging, WalkFault};
 use crate::waiting::Waiting;
+use arrayvec::ArrayVec;
 use outside::{Images, Memory};
-use raid_params::{Geometry, Slots};
+use raid_params::{Geometry, Slots, Wide};
 use row_scan::{Gate, Tally, scan_tallied};
 use std::thread::Threads;
 
@@ -32,7 +33,7 @@ pub(crate) fn scan_waiting<R: Threads + Sync, I: Images, G: Gate + Sync>(
     requires some { 1 ≤ length page.old.waiting.sets }
     requires most { length page.old.waiting.sets ≤ 4096 }
     requires are { AreWaiting paging.now.plan.now page.old.waiting }
-    requires wait { Wait (told_all (I.seen images.old).attached) paging.now.plan.now page.old.tested at (lines_of page.old.waiting.ranks page.old.waiting.sets) }
+    requires wait { Wait (told_all (I.seen images.old).attached) paging.now.plan.now page.old.tested at (ranked_sets page.old.waiting.ranks page.old.waiting.sets) }
     ensures gathers { IfOk result (Gathers (told_all (I.seen images.old).attached) paging.now.plan.now paging.now.size at page.old page.new) }
     ensures tested { IfOk result (λ full. full ≡ None → page.new.tested ≡ at) }
     ensures fills { IfOk result (λ full. paging.now.size ≤ length page.old.lines + page.old.waiting.known → is_some full ≡ true) }
@@ -82,16 +83,22 @@ pub fn finish<R: Threads + Sync, I: Images, G: Gate + Sync>(
     }
 }
 
-/// A copy of a set.
-fn copy_of(geo: &Geometry) -> Geometry
+/// The line of a set of this rank.
+fn line_of(rank: u64, geo: &Geometry) -> Line
     requires { length geo.now.slots.items ≤ MOST }
-    ensures { result ≡ geo.now }
+    ensures { IsLineOf (record { rank = rank; geo = geo.now }) result }
 {
     let mut slots = Slots::new();
     slots.try_extend_from_slice(&geo.slots).unwrap();
-    Geometry {
-        head: geo.head,
-        slots,
+    Line {
+        rank,
+        geo: Wide {
+            geo: Geometry {
+                head: geo.head,
+                slots,
+            },
+            bases: ArrayVec::new(),
+        },
     }
 }
 
@@ -109,8 +116,8 @@ fn add_passed(lines: &mut Lines, waiting: &Waiting, size: u64) -> Result<Option<
     let tallies: &[Tally] = &waiting.tallies;
     for k in 0..sets.len() {
         if tallies[k].has_passed() {
-            let (rank, geo) = (ranks[k], copy_of(&sets[k]));
-            lines.push(Line { rank, geo })?;
+            let rank = ranks[k];
+            lines.push(line_of(rank, &sets[k]))?;
             if lines.as_slice().len() as u64 == size {
                 return Ok(Some(rank + 1));
             }

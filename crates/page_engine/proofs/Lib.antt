@@ -3,8 +3,6 @@ pub mod Shifted
 pub mod PartPage
 pub mod PartReads
 pub mod Walked
-pub mod CommonLines
-pub mod CommonPages
 pub mod PageByPage
 pub mod Hopeful
 pub mod Law

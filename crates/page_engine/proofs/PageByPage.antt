@@ -1,102 +1,29 @@
 -- Pages made one after another.
-use Rattle.std.proofs.Common.{ℕ, zero, suc, true, false, ◌≡◌, ◌≢◌, ◌<◌, ◌≤◌, ◌+◌, ◌*◌, ◌^◌, ◌⊎◌, inl, inr, Bool, cond, List, [], ◌∷◌, ◌++◌, length, map, refl, sym, ap, ◌∙◌, subst, arith, Option, Some, None, IfSome, Result, IsErrAnd, IsErrOf, Ok, Err}
+use Rattle.std.proofs.Common.{rules, ℕ, true, false, ◌≡◌, ◌<◌, ◌≤◌, ◌+◌, ◌*◌, ◌^◌, inl, inr, Bool, cond, List, [], ◌∷◌, ◌++◌, length, refl, sym, ap, ◌∙◌, subst, arith, Option, Result, IsErrAnd, IsErrOf, Ok, Err}
 use Rattle.std.specs.Result.{is_err}
 use Rattle.std.proofs.lemmas.Bool.{cases_lt}
 use Rattle.outside.proofs.Reading.{reads_join, reads_none, reads_up}
 use Rattle.outside.specs.Attached.{told_all}
 use Rattle.outside.specs.Causes.{Rose}
 use Rattle.outside.specs.Seen.{Image, OnlyReads, Seen}
-use Rattle.std.proofs.lemmas.List.{map-append}
 use Rattle.head_walk.specs.Counts.{most_scanned}
-use Rattle.common_pages.specs.Pages.{scans_to, table_reads}
-use Rattle.search_terms.specs.Page.{page_next, stop_of}
+use Rattle.common_pages.proofs.PageByPage.{Begun, ends_all, ends_more, ends_of, Going, made_end, not_an_error}
+use Rattle.common_pages.specs.Pages.{ArePageEnds, ArePagesFrom, EndsPage, IsPageFrom, ReadsPages, scans_to, table_reads}
+use Rattle.search_terms.specs.Page.{stop_of}
 use Rattle.search_plan.specs.declared.plan.Plan.{Plan}
 use Rattle.common_pages.specs.declared.page_parts.CursorFault.{CursorFault}
+use Rattle.common_pages.specs.declared.page_parts.ListPage.{ListPage}
 use Rattle.common_pages.specs.declared.page_parts.PageFault.{PageFault}
 use Rattle.common_pages.specs.declared.page_parts.PageFault.TheVariants.{Many, Cursor, ReadFault, Memory}
-use Rattle.wide_product.specs.Sets.{wide_passes_at, wide_total}
-use Rattle.page_engine.specs.Reads.{ArePageEnds, IsPageEnd, ReadsWide, based_reads, based_to, wide_reads, wide_reads_to}
+use Rattle.wide_product.specs.Sets.{wide_total}
+use Rattle.page_engine.specs.Reads.{ReadsWide, based_reads, based_to, wide_reads, wide_reads_to}
 use Rattle.page_engine.proofs.RangeReads.{wide_based}
-use Rattle.page_engine.proofs.CommonPages.{same_fault}
-use Rattle.page_engine.specs.Pages.{ArePagesFrom, EndsBased, GivesPage, GivesPages, IsPageFrom, IsPageOf}
+use Rattle.page_engine.specs.Pages.{GivesPage, GivesPages}
 use Rattle.page_engine.specs.Parts.{EndsPart}
-use Rattle.page_engine.specs.declared.page_parts.ListPage.{ListPage}
 
--- pages from one rank to another, each where the last one goes on, of which none goes on at the total
-unfoldable pub Going : Option (List (List ℕ)) → Plan → ℕ → ℕ → ℕ → ℕ → List ListPage → Type 0
-Going told plan size span from to [] = from ≡ to
-Going told plan size span from to (page ∷ pages) = IsPageFrom told plan from size span page × (page.next < wide_total plan) × Going told plan size span page.next to pages
-
--- no page yet
-pub none_made : (told : Option (List (List ℕ))) (plan : Plan) (size span from : ℕ) → Going told plan size span from from []
-unfolding Going
-none_made told plan size span from = refl
-
--- one page more
-pub one_more : (told : Option (List (List ℕ))) (plan : Plan) (size span from mid : ℕ) (pages : List ListPage) (page : ListPage) → Going told plan size span from mid pages → IsPageFrom told plan mid size span page →
-    page.next < wide_total plan → Going told plan size span from page.next (pages ++ page ∷ [])
-unfolding Going
-one_more told plan size span from mid [] page going is_page below = ((let P : ℕ → Type 0 = λ n. IsPageFrom told plan n size span page in subst P (sym going) is_page), below, refl)
-one_more told plan size span from mid (first ∷ pages) page going is_page below = (going.0, going.1, one_more told plan size span first.next mid pages page going.2 is_page below)
-
--- the last page
-pub the_last : (told : Option (List (List ℕ))) (plan : Plan) (size span count from mid : ℕ) (pages : List ListPage) (page : ListPage) → Going told plan size span from mid pages → IsPageFrom told plan mid size span page →
-    page.next ≡ wide_total plan → length pages < count → ArePagesFrom told plan size span count from (pages ++ page ∷ [])
-unfolding Going ArePagesFrom
-the_last told plan size span zero from mid pages page going is_page at few = absurd (omega arith)
-the_last told plan size span (suc count) from mid [] page going is_page at few = ((let P : ℕ → Type 0 = λ n. IsPageFrom told plan n size span page in subst P (sym going) is_page), inl (at, refl))
-the_last told plan size span (suc count) from mid (first ∷ pages) page going is_page at few = (going.0, inr (going.1, the_last told plan size span count first.next mid pages page going.2 is_page at (omega arith)))
-
--- `count` pages
-pub all_made : (told : Option (List (List ℕ))) (plan : Plan) (size span count from to : ℕ) (pages : List ListPage) → Going told plan size span from to pages → length pages ≡ count → ArePagesFrom told plan size span count from pages
-unfolding Going ArePagesFrom
-all_made told plan size span zero from to [] going many = refl
-all_made told plan size span zero from to (page ∷ pages) going many = absurd (omega arith)
-all_made told plan size span (suc count) from to [] going many = absurd (omega arith)
-all_made told plan size span (suc count) from to (page ∷ pages) going many = (going.0, inr (going.1, all_made told plan size span count page.next to pages going.2 (omega arith)))
-
--- nothing was done yet, or the pages made say that the total is small and not passed
-abbrev pub Begun : Plan → ℕ → ℕ → ℕ → Seen → Seen → Type 0
-Begun plan from made at old now = ((made ≡ 0) × (at ≡ from) × (now ≡ old)) ⊎ ((1 ≤ made) × (at ≤ wide_total plan) × (wide_total plan < 2 ^ 64))
-
--- a page that does not go on at the total goes on before it
-pub below_total : (next total all span at : ℕ) → next ≢ total → total ≡ all → next ≤ stop_of all at span → next < all
-below_total next total all span at other same within = elim (cases_lt next all) [
-  | inl below ↦ below
-  | inr above ↦ absurd (other (let e : next ≡ total = omega arith in e))
-]
-
--- a page is no fault
-pub not_an_error : (page : ListPage) (fault : PageFault) → IsErrOf (let r : Result ListPage PageFault = Ok page in r) fault → ⊥
-not_an_error page fault e = cc
-
--- where pages end
-abbrev pub ends_of : List ListPage → List ℕ
-ends_of pages = map (λ (page : ListPage). page.next) pages
-
--- a page that was made
-made_end : (told : Option (List (List ℕ))) (plan : Plan) (size span : ℕ) (failed : Bool) (from : ℕ) (page : ListPage) (later : List ℕ) → IsPageFrom told plan from size span page → IsPageEnd told plan size span failed from page.next later
-made_end told plan size span failed from page later is_page = inr (is_page.forward, is_page.within, at told is_page.page)
-  where
-    at : (known : Option (List (List ℕ))) → IfSome known (λ bytes. IsPageOf bytes plan from size span page) → IfSome known (λ bytes. page.next ≡ page_next (wide_passes_at bytes plan) (wide_total plan) from size span)
-    at None is = tt
-    at (Some bytes) is = is.goes_on
-
--- pages, and one more end
-ends_more : (told : Option (List (List ℕ))) (plan : Plan) (size span : ℕ) (failed : Bool) (count from mid end : ℕ) (pages : List ListPage) → Going told plan size span from mid pages → IsPageEnd told plan size span failed mid end [] → length pages < count →
-    ArePageEnds told plan size span failed count from (ends_of pages ++ end ∷ [])
-unfolding Going ArePageEnds
-ends_more told plan size span failed zero from mid end pages going is few = absurd (omega arith)
-ends_more told plan size span failed (suc count) from mid end [] going is few = ((let P : ℕ → Type 0 = λ n. IsPageEnd told plan size span failed n end [] in subst P (sym going) is), tt)
-ends_more told plan size span failed (suc count) from mid end (page ∷ pages) going is few =
-    (made_end told plan size span failed from page (ends_of pages ++ end ∷ []) going.0, ends_more told plan size span failed count page.next mid end pages going.2 is (omega arith))
-
--- pages alone
-ends_all : (told : Option (List (List ℕ))) (plan : Plan) (size span : ℕ) (failed : Bool) (count from to : ℕ) (pages : List ListPage) → Going told plan size span from to pages → length pages ≤ count → ArePageEnds told plan size span failed count from (ends_of pages)
-unfolding Going ArePageEnds
-ends_all told plan size span failed count from to [] going few = tt
-ends_all told plan size span failed zero from to (page ∷ pages) going few = absurd (omega arith)
-ends_all told plan size span failed (suc count) from to (page ∷ pages) going few = (made_end told plan size span failed from page (ends_of pages) going.0, ends_all told plan size span failed count page.next to pages going.2 (omega arith))
+-- an error of one kind of call is that of another
+pub same_fault : {T : Type 0} (fault other : PageFault) → IsErrOf (let r : Result T PageFault = Err fault in r) other → fault ≡ other
+same_fault {T} fault other e = search rules
 
 -- what is read with one more end
 based_more : (told : Option (List (List ℕ))) (plan : Plan) (size span from mid end : ℕ) (pages : List ListPage) → Going told plan size span from mid pages →
@@ -119,10 +46,6 @@ reads_more first then plan size span from mid end pages old now new each same go
     let sum = based_more (told_all first) plan size span from mid end pages going in
     reads_up old new (reads_join old now new before (subst P same more)) (omega arith)
 
--- where pages end, with one more
-pub ends_with : (pages : List ListPage) (page : ListPage) → ends_of (pages ++ page ∷ []) ≡ ends_of pages ++ page.next ∷ []
-ends_with pages page = map-append (λ (one : ListPage). one.next) pages (page ∷ [])
-
 -- what all of them read
 wide_to : (told : Option (List (List ℕ))) (plan : Plan) (from : ℕ) (ends : List ℕ) → plan.each ≡ true → wide_reads_to told plan from ends ≡ based_to told plan from ends
 unfolding wide_reads_to
@@ -133,6 +56,14 @@ reads_of : (told : Option (List (List ℕ))) (plan : Plan) (size span : ℕ) (fa
 reads_of told plan size span failed count from ends old new each are reads =
     let P : ℕ → Type 0 = λ n. OnlyReads old new n in
     record { ends = ends; are = are; reads = subst P (sym (wide_to told plan from ends each)) reads }
+
+-- what pages read where the images have a common offset
+pub wide_pages : (told : Option (List (List ℕ))) (plan : Plan) (size span : ℕ) (failed : Bool) (count from : ℕ) (old new : Seen) → plan.each ≡ false → ReadsPages told plan size span failed count from old new → ReadsWide told plan size span failed count from old new
+unfolding wide_reads_to
+wide_pages told plan size span failed count from old new each reads =
+    let P : ℕ → Type 0 = λ n. OnlyReads old new n in
+    let most = table_reads plan + scans_to told plan from reads.ends * most_scanned plan in
+    record { ends = reads.ends; are = reads.are; reads = subst P (sym (ap (λ (b : Bool). cond b (based_to told plan from reads.ends) most) each)) reads.reads }
 
 -- the pages made
 pub wide_made : (told : Option (List (List ℕ))) (plan : Plan) (size span : ℕ) (failed : Bool) (count from to : ℕ) (pages : List ListPage) (old new : Seen) → plan.each ≡ true → Going told plan size span from to pages → length pages ≤ count →
@@ -152,7 +83,7 @@ wide_ended told plan size span failed count from mid pages old new each going fe
     reads_of told plan size span failed count from (ends_of pages ++ stop_of (wide_total plan) mid span ∷ []) old new each (ends_more told plan size span failed count from mid (stop_of (wide_total plan) mid span) pages going (inl (fails, refl, refl)) few) reads
 
 -- why there is no page where the lines of a part are not known
-ends_part : (plan : Plan) (from : ℕ) (old new : Seen) (fault : PageFault) → EndsPart old new fault → EndsBased plan from old new fault
+ends_part : (plan : Plan) (from : ℕ) (old new : Seen) (fault : PageFault) → EndsPart old new fault → EndsPage plan from old new fault
 ends_part plan from old new Many ends = absurd ends
 ends_part plan from old new (Cursor fault) ends = absurd ends
 ends_part plan from old new ReadFault ends = ends
@@ -168,7 +99,7 @@ gives_cut plan size span from old new fault (Err other) is each few low ends rea
       many = λ high. absurd (omega arith);
       cursor = λ small past. absurd (omega arith);
       quiet = tt;
-      ends = subst (EndsBased plan from old new) (sym is) (ends_part plan from old new fault ends);
+      ends = subst (EndsPage plan from old new) (sym is) (ends_part plan from old new fault ends);
       reads = subst P (sym (wide_based (told_all old.attached) plan from (stop_of (wide_total plan) from span) each)) reads;
     }
 
@@ -218,12 +149,12 @@ gives_short plan size span count from old new fault (Err other) is memory few lo
   many = λ high. absurd (omega arith);
   cursor = λ small past. absurd (omega arith);
   quiet = tt;
-  ends = subst (EndsBased plan from old new) (sym (is ∙ memory)) quiet;
+  ends = subst (EndsPage plan from old new) (sym (is ∙ memory)) quiet;
   reads = reads;
 }
 
 -- why a page could not be made after others is why the pages could not
-ends_on : (plan : Plan) (from at made : ℕ) (old now new : Seen) (fault : PageFault) → from ≤ at → now.faults ≡ old.faults → Begun plan from made at old now → EndsBased plan at now new fault → EndsBased plan from old new fault
+ends_on : (plan : Plan) (from at made : ℕ) (old now new : Seen) (fault : PageFault) → from ≤ at → now.faults ≡ old.faults → Begun plan from made at old now → EndsPage plan at now new fault → EndsPage plan from old new fault
 ends_on plan from at made old now new Many low quiet (inl none) ends = (ends.0, ends.1 ∙ none.2)
 ends_on plan from at made old now new Many low quiet (inr some) ends = absurd (let few = some.2 in let many = ends.0 in omega arith)
 ends_on plan from at made old now new (Cursor fault) low quiet (inl none) ends =
@@ -245,7 +176,7 @@ pub gives_fault : (plan : Plan) (size span count from at made : ℕ) (old now ne
 gives_fault plan size span count from at made old now new fault (Ok pages) is low quiet begun gives reads = absurd is
 gives_fault plan size span count from at made old now new fault (Err other) is low quiet begun gives reads =
     let raised : PageFault → Result (List ListPage) PageFault = λ f. Err f in
-    let ends : EndsBased plan at now new fault = gives.ends in
+    let ends : EndsPage plan at now new fault = gives.ends in
     record {
       pages = tt;
       many = λ high. ap raised (is ∙ same_fault {T = ListPage} fault Many (gives.many high));
@@ -254,6 +185,6 @@ gives_fault plan size span count from at made old now new fault (Err other) is l
           (is
           ∙ cursor_on plan from at made old now fault low begun (λ small beyond. same_fault {T = ListPage} fault (Cursor (record { from = at; total = wide_total plan })) (gives.cursor small beyond)) few past);
       quiet = tt;
-      ends = subst (EndsBased plan from old new) (sym is) (ends_on plan from at made old now new fault low quiet begun ends);
+      ends = subst (EndsPage plan from old new) (sym is) (ends_on plan from at made old now new fault low quiet begun ends);
       reads = reads;
     }

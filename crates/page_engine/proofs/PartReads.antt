@@ -11,15 +11,15 @@ use Rattle.common_pages.specs.Pages.{page_reads, EndsOrFull}
 use Rattle.common_pages.specs.declared.page_parts.ListPage.{ListPage}
 use Rattle.search_plan.specs.Plans.{AgreeWith, AreMovable, IsPlan}
 use Rattle.search_terms.specs.Page.{stop_of}
-use Rattle.plan_sets.specs.Sets.{total_of}
 use Rattle.search_plan.specs.declared.plan.Plan.{Plan}
 use Rattle.wide_product.proofs.Aligned.{aligned}
 use Rattle.wide_product.specs.PaddedParts.{part_plan, IsPaddedPart}
 use Rattle.wide_product.specs.Parts.{IsPartOf}
-use Rattle.wide_product.specs.Sets.{padded_bytes, Based}
+use Rattle.wide_product.specs.Sets.{padded_bytes, wide_total, Based}
 use Rattle.wide_product.specs.declared.padded_part.PaddedPart.{PaddedPart}
 use Rattle.wide_product.specs.declared.parts.Part.{Part}
 use Rattle.page_engine.proofs.PartPage.{told_padded}
+use Rattle.page_engine.proofs.Shifted.{part_within}
 use Rattle.page_engine.proofs.Cut.{cut_inside}
 use Rattle.page_engine.proofs.Hopeful.{reads_there}
 use Rattle.page_engine.specs.Reads.{based_reads, cut, part_reads}
@@ -84,8 +84,8 @@ reads_on attached plan part made bases from to tested old new is_plan each is is
 
 -- where the page of a part ends
 pub next_inside : (plan : Plan) (part : Part) (made : PaddedPart) (found : ListPage) (missing from stop : ℕ) → IsPaddedPart plan part made → part.first ≤ from → from < stop → stop ≤ part.first + part.count →
-    EndsOrFull missing (made.first + (from - part.first)) (stop_of (total_of made.plan) (made.first + (from - part.first)) (stop - from)) (length found.lines) found.next →
-    found.next ≤ stop_of (total_of made.plan) (made.first + (from - part.first)) (stop - from) →
+    EndsOrFull missing (made.first + (from - part.first)) (stop_of (wide_total made.plan) (made.first + (from - part.first)) (stop - from)) (length found.lines) found.next →
+    found.next ≤ stop_of (wide_total made.plan) (made.first + (from - part.first)) (stop - from) →
     (found.next ≡ made.first + (part.first + (found.next - made.first) - part.first)) × (part.first + (found.next - made.first) ≤ stop) × (from < part.first + (found.next - made.first))
-next_inside plan part made found missing from stop is low range high (inl (at, few)) within = let end = is.within in (omega arith, omega arith, omega arith)
-next_inside plan part made found missing from stop is low range high (inr (on, many)) within = let end = is.within in (omega arith, omega arith, omega arith)
+next_inside plan part made found missing from stop is low range high (inl (at, few)) within = let end = part_within plan part made is in (omega arith, omega arith, omega arith)
+next_inside plan part made found missing from stop is low range high (inr (on, many)) within = let end = part_within plan part made is in (omega arith, omega arith, omega arith)

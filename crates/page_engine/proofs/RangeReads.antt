@@ -1,5 +1,5 @@
 -- What is read for ranks that are walked part after part.
-use Rattle.std.proofs.Common.{ℕ, min, true, ◌≡◌, ◌+◌, ◌<◌, ◌≤◌, ◌⊎◌, inl, inr, Bool, cond, List, [], ◌∷◌, ◌++◌, length, refl, sym, ap, ◌∙◌, arith, subst, append_assoc, append-nil, length-append, Option, Result, Ok, Err, IsErr, sum_by}
+use Rattle.std.proofs.Common.{ℕ, min, true, false, ◌≡◌, ◌+◌, ◌<◌, ◌≤◌, ◌⊎◌, inl, inr, Bool, cond, List, [], ◌∷◌, ◌++◌, length, refl, sym, ap, ◌∙◌, arith, subst, append_assoc, append-nil, length-append, Option, Result, Ok, Err, IsErr, sum_by}
 use Rattle.std.proofs.lemmas.Bool.{cases_lt}
 use Rattle.outside.proofs.Reading.{reads_join, reads_up}
 use Rattle.outside.specs.Attached.{told_all}
@@ -102,3 +102,7 @@ reads_longer told plan from stop at to old new stops low high most reads =
 pub wide_based : (told : Option (List (List ℕ))) (plan : Plan) (from to : ℕ) → plan.each ≡ true → wide_reads told plan from to ≡ based_reads told plan from to
 unfolding wide_reads
 wide_based told plan from to each = ap (λ (b : Bool). cond b (based_reads told plan from to) (page_reads told plan from to)) each
+
+pub wide_common : (told : Option (List (List ℕ))) (plan : Plan) (from to : ℕ) → plan.each ≡ false → wide_reads told plan from to ≡ page_reads told plan from to
+unfolding wide_reads
+wide_common told plan from to each = ap (λ (b : Bool). cond b (based_reads told plan from to) (page_reads told plan from to)) each

@@ -26,9 +26,9 @@ use Rattle.slot_math.specs.declared.space.Space.{Space}
 use Rattle.page_engine.proofs.Hopeful.{groups_same}
 use Rattle.page_engine.proofs.Law.{hopeful}
 use Rattle.page_engine.specs.Laws.{is_hopeful_with}
-use Rattle.page_engine.specs.Lines.{ranks_of}
+use Rattle.common_pages.specs.Pages.{ranks_of}
 use Rattle.page_engine.specs.Parts.{GathersPart, NonePass}
-use Rattle.page_engine.specs.declared.lines.Line.{Line}
+use Rattle.head_walk.specs.declared.parts.Line.{Line}
 use Rattle.wide_product.proofs.PartPlan.{part_made}
 use Rattle.wide_product.specs.PaddedParts.{padded_for, IsPaddedPart}
 use Rattle.wide_product.specs.Parts.{IsPartOf}

@@ -5,19 +5,19 @@ use Rattle.std.proofs.lemmas.List.{map-append}
 use Rattle.std.proofs.lemmas.List.Elements.{All-append, All-cons, All-head, All-nil, All-tail}
 use Rattle.std.proofs.lemmas.Option.{slice_get-get_or}
 use Rattle.std.specs.List.{range_with_len}
-use Rattle.head_walk.specs.Walk.{HoldsSet}
-use Rattle.head_walk.specs.declared.parts.Line.{Line as CommonLine}
+use Rattle.common_pages.proofs.HeadByHead.{passes_are}
+use Rattle.common_pages.specs.Pages.{HoldsBased, ranks_of}
+use Rattle.head_walk.specs.declared.parts.Line.{Line}
 use Rattle.raid_params.specs.declared.types.Geometry.{Geometry}
-use Rattle.plan_sets.specs.Sets.{sets_of}
 use Rattle.search_plan.specs.declared.plan.Plan.{Plan}
 use Rattle.slot_math.specs.Space.{lists_of}
 use Rattle.wide_product.specs.PaddedParts.{IsPaddedPart}
 use Rattle.wide_product.specs.Parts.{IsPartOf}
-use Rattle.wide_product.specs.Sets.{wide_sets, Based}
+use Rattle.wide_product.proofs.Products.{common_set, common_total}
+use Rattle.wide_product.specs.Sets.{based, padded_bytes, wide_passes_at, wide_sets, wide_total, Based}
 use Rattle.wide_product.specs.declared.padded_part.PaddedPart.{PaddedPart}
 use Rattle.wide_product.specs.declared.parts.Part.{Part}
-use Rattle.page_engine.specs.Lines.{AddsPadded, HoldsBased, is_inside, IsPaddedLine, padded_ranks, ranks_of}
-use Rattle.page_engine.specs.declared.lines.Line.{Line}
+use Rattle.page_engine.specs.Lines.{AddsPadded, is_inside, IsPaddedLine, padded_ranks}
 
 -- a rank of the part
 inside : (part : Part) (first rank : ℕ) → first ≤ rank → rank < first + part.count → is_inside part first rank ≡ true
@@ -69,8 +69,25 @@ all_front P (x ∷ xs) y all =
 some_same : {A : Type 0} (x y : A) → (let l : Option A = Some x in let r : Option A = Some y in l ≡ r) → x ≡ y
 some_same {A} x y e = search rules
 
+-- the images of a part's plan have a common offset
+pub common_part : (plan : Plan) (part : Part) (made : PaddedPart) → IsPaddedPart plan part made → made.plan.each ≡ false
+common_part plan part made is = ap (λ (p : Plan). p.each) is.is
+
+-- a part stands within its plan
+pub part_within : (plan : Plan) (part : Part) (made : PaddedPart) → IsPaddedPart plan part made → made.first + part.count ≤ wide_total made.plan
+part_within plan part made is =
+    let same = common_total made.plan (common_part plan part made is) in
+    let within = is.within in
+    omega arith
+
+-- a rank of the part's plan passes as the one of the product does
+pub passes_there : (plan : Plan) (part : Part) (made : PaddedPart) → IsPaddedPart plan part made → (images : List (List ℕ)) (k : ℕ) → k < part.count →
+    wide_passes_at (padded_bytes part.bases.items images) made.plan (made.first + k) ≡ wide_passes_at images plan (part.first + k)
+passes_there plan part made is images k below =
+    ap (λ (p : ℕ → Bool). p (made.first + k)) (sym (passes_are (padded_bytes part.bases.items images) made.plan (common_part plan part made is))) ∙ is.passing images k below
+
 -- a line of the part's plan gives one of the product
-holds_padded : (plan : Plan) (part : Part) (made : PaddedPart) (line : CommonLine) (padded : Line) → IsPartOf plan part → IsPaddedPart plan part made → IsPaddedLine part made.first line padded → HoldsSet made.plan line → HoldsBased plan padded
+holds_padded : (plan : Plan) (part : Part) (made : PaddedPart) (line padded : Line) → IsPartOf plan part → IsPaddedPart plan part made → IsPaddedLine part made.first line padded → HoldsBased made.plan line → HoldsBased plan padded
 holds_padded plan part made line padded is is_padded own holds =
     let low = own.low in
     let high = own.high in
@@ -79,17 +96,18 @@ holds_padded plan part made line padded is is_padded own holds =
     let slots = get_or (lists_of part.space) (line.rank - made.first) [] in
     let at = slice_get-get_or (lists_of part.space) (line.rank - made.first) [] (let e : line.rank - made.first < length (lists_of part.space) = omega arith in e) in
     let here : Geometry = record { head = part.head; slots = record { items = slots } } in
-    let same : line.geo ≡ record { head = part.head; slots = record { items = slots } } =
-    some_same line.geo here (sym holds ∙ ap (slice_get (sets_of made.plan)) (let e : line.rank ≡ made.first + (line.rank - made.first) = omega arith in e) ∙ is_padded.stand k slots at) in
+    let there : Based = (record { head = part.head; slots = record { items = slots } }, []) in
+    let same : based line.geo ≡ there =
+    some_same (based line.geo) there (sym holds ∙ ap (slice_get (wide_sets made.plan)) (let e : line.rank ≡ made.first + (line.rank - made.first) = omega arith in e)
+    ∙ common_set made.plan (made.first + k) here [] (common_part plan part made is_padded) (is_padded.stand k slots at) refl) in
     ap (slice_get (wide_sets plan)) own.rank
     ∙ is.stand k slots at
-    ∙ sym (ap (λ (b : Based). Some b) (own.set ∙ ap (λ (g : Geometry). let b : Based = (record { head = part.head; slots = g.slots }, part.bases.items) in b) same))
+    ∙ sym (ap (λ (b : Based). Some b) (own.set ∙ ap (λ (b : Based). let c : Based = (record { head = part.head; slots = b.0.slots }, part.bases.items) in c) same))
 
 -- one line more
-pub adds_one : (part : Part) (first : ℕ) (xs : List CommonLine) (line : CommonLine) (old mid new : List Line) (padded : Line) → AddsPadded part first xs old mid → IsPaddedLine part first line padded → new ≡ mid ++ padded ∷ [] → AddsPadded part first (xs ++ line ∷ []) old new
+pub adds_one : (part : Part) (first : ℕ) (xs : List Line) (line : Line) (old mid new : List Line) (padded : Line) → AddsPadded part first xs old mid → IsPaddedLine part first line padded → new ≡ mid ++ padded ∷ [] → AddsPadded part first (xs ++ line ∷ []) old new
 unfolding padded_ranks
 adds_one part first xs line old mid new padded adds own is =
-    let rank : CommonLine → ℕ = λ held. held.rank in
     let most = adds.most in
     let long = length-append mid (padded ∷ []) in
     let all = length-append xs (line ∷ []) in
@@ -99,13 +117,13 @@ adds_one part first xs line old mid new padded adds own is =
           ap ranks_of is
           ∙ map-append (λ (held : Line). held.rank) mid (padded ∷ [])
           ∙ ap₂ (λ (a : List ℕ) (n : ℕ). a ++ n ∷ []) adds.ranks own.rank
-          ∙ append_assoc (ranks_of old) (padded_ranks part first (map (λ (held : CommonLine). held.rank) xs)) ((part.first + (line.rank - first)) ∷ [])
+          ∙ append_assoc (ranks_of old) (padded_ranks part first (map (λ (held : Line). held.rank) xs)) ((part.first + (line.rank - first)) ∷ [])
           ∙ ap (λ (l : List ℕ). ranks_of old ++ l)
-          (ap (λ (b : Bool). padded_ranks part first (map (λ (held : CommonLine). held.rank) xs) ++ cond b ((part.first + (line.rank - first)) ∷ []) []) (sym (inside part first line.rank own.low own.high))
-          ∙ sym (padded_ranks_append part first (map (λ (held : CommonLine). held.rank) xs) (line.rank ∷ []))
-          ∙ ap (padded_ranks part first) (sym (map-append (λ (held : CommonLine). held.rank) xs (line ∷ []))));
+          (ap (λ (b : Bool). padded_ranks part first (map (λ (held : Line). held.rank) xs) ++ cond b ((part.first + (line.rank - first)) ∷ []) []) (sym (inside part first line.rank own.low own.high))
+          ∙ sym (padded_ranks_append part first (map (λ (held : Line). held.rank) xs) (line.rank ∷ []))
+          ∙ ap (padded_ranks part first) (sym (map-append (λ (held : Line). held.rank) xs (line ∷ []))));
       sets = λ plan made is_part is_padded at found before.
-          (let both = all_front (HoldsSet made.plan) xs line found in
+          (let both = all_front (HoldsBased made.plan) xs line found in
           let P : ℕ → Type 0 = λ n. IsPaddedLine part n line padded in
           subst (All (HoldsBased plan)) (sym is)
           (All-append (HoldsBased plan) mid (padded ∷ []) (adds.sets plan made is_part is_padded at both.0 before)
@@ -114,7 +132,7 @@ adds_one part first xs line old mid new padded adds own is =
     }
 
 -- and one that is none of the part
-pub adds_skip : (part : Part) (first : ℕ) (xs : List CommonLine) (line : CommonLine) (old new : List Line) → AddsPadded part first xs old new → is_inside part first line.rank ≡ false → AddsPadded part first (xs ++ line ∷ []) old new
+pub adds_skip : (part : Part) (first : ℕ) (xs : List Line) (line : Line) (old new : List Line) → AddsPadded part first xs old new → is_inside part first line.rank ≡ false → AddsPadded part first (xs ++ line ∷ []) old new
 unfolding padded_ranks
 adds_skip part first xs line old new adds out =
     let most = adds.most in
@@ -123,10 +141,10 @@ adds_skip part first xs line old new adds out =
       ranks =
           adds.ranks
           ∙ ap (λ (l : List ℕ). ranks_of old ++ l)
-          (sym (append-nil (padded_ranks part first (map (λ (held : CommonLine). held.rank) xs)))
-          ∙ ap (λ (b : Bool). padded_ranks part first (map (λ (held : CommonLine). held.rank) xs) ++ cond b ((part.first + (line.rank - first)) ∷ []) []) (sym out)
-          ∙ sym (padded_ranks_append part first (map (λ (held : CommonLine). held.rank) xs) (line.rank ∷ []))
-          ∙ ap (padded_ranks part first) (sym (map-append (λ (held : CommonLine). held.rank) xs (line ∷ []))));
-      sets = λ plan made is_part is_padded at found before. adds.sets plan made is_part is_padded at (all_front (HoldsSet made.plan) xs line found).0 before;
+          (sym (append-nil (padded_ranks part first (map (λ (held : Line). held.rank) xs)))
+          ∙ ap (λ (b : Bool). padded_ranks part first (map (λ (held : Line). held.rank) xs) ++ cond b ((part.first + (line.rank - first)) ∷ []) []) (sym out)
+          ∙ sym (padded_ranks_append part first (map (λ (held : Line). held.rank) xs) (line.rank ∷ []))
+          ∙ ap (padded_ranks part first) (sym (map-append (λ (held : Line). held.rank) xs (line ∷ []))));
+      sets = λ plan made is_part is_padded at found before. adds.sets plan made is_part is_padded at (all_front (HoldsBased made.plan) xs line found).0 before;
       most = omega arith;
     }

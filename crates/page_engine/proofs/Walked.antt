@@ -7,9 +7,9 @@ use Rattle.page_loop.proofs.Appended.{added_join, added_none}
 use Rattle.page_loop.specs.Parts.{Added, Fills, Whole}
 use Rattle.search_plan.specs.declared.plan.Plan.{Plan}
 use Rattle.wide_product.specs.Sets.{wide_passes_at}
-use Rattle.page_engine.specs.Lines.{HoldsBased, ranks_of}
+use Rattle.common_pages.specs.Pages.{HoldsBased, ranks_of}
 use Rattle.page_engine.specs.Parts.{GathersPart}
-use Rattle.page_engine.specs.declared.lines.Line.{Line}
+use Rattle.head_walk.specs.declared.parts.Line.{Line}
 
 -- a page that was full after ranks where it was not
 fills_on : (passes : Option (ℕ → Bool)) (size a b stop next : ℕ) (xs ys zs : List ℕ) → a ≤ b → Added passes a b xs ys → Fills passes size b stop ys zs next → Fills passes size a stop xs zs next

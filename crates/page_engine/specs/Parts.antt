@@ -8,8 +8,8 @@ use Rattle.common_pages.specs.declared.page_parts.PageFault.TheVariants.{Many, C
 use Rattle.page_loop.specs.Parts.{Whole}
 use Rattle.search_plan.specs.declared.plan.Plan.{Plan}
 use Rattle.wide_product.specs.Sets.{wide_passes_at}
-use Rattle.page_engine.specs.Lines.{HoldsBased, ranks_of}
-use Rattle.page_engine.specs.declared.lines.Line.{Line}
+use Rattle.common_pages.specs.Pages.{HoldsBased, ranks_of}
+use Rattle.head_walk.specs.declared.parts.Line.{Line}
 
 -- the lines of a part's ranks from one up to a stop were appended, up to where the page is full if it is
 pub record GathersPart (told : Option (List (List ℕ))) (plan : Plan) (size from stop : ℕ) (old new : List Line) (next : ℕ) : Type 0 where

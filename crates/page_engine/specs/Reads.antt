@@ -1,18 +1,17 @@
 -- What is read for pages.
-use Rattle.std.specs.Prelude.{ℕ, ◌≡◌, ◌+◌, ◌-◌, ◌*◌, ◌/◌, ◌≤◌, ◌⊎◌, min, Bool, true, not, ◌&&◌, if◌then◌else◌, zero, suc, IfSome, List, [], ◌∷◌, length, count_by, slice_range, sum_by}
+use Rattle.std.specs.Prelude.{ℕ, ◌+◌, ◌-◌, ◌*◌, ◌/◌, min, Bool, true, not, ◌&&◌, if◌then◌else◌, List, [], ◌∷◌, length, count_by, slice_range, sum_by}
 use Rattle.std.specs.declared.option.Option.{Option}
 use Rattle.std.specs.declared.option.Option.TheVariants.{None, Some}
 use Rattle.outside.specs.Seen.{OnlyReads, Seen}
 use Rattle.candidate_enum.specs.Survivors.{all_admitted}
 use Rattle.head_walk.specs.Counts.{is_decided, most_scanned}
 use Rattle.padded_images.specs.Plans.{padded_plan}
-use Rattle.common_pages.specs.Pages.{page_reads, scans_to, table_reads}
+use Rattle.common_pages.specs.Pages.{ArePageEnds, page_reads, scans_to, table_reads}
 use Rattle.prune_filters.specs.Hopeful.{is_hopeful}
 use Rattle.search_plan.specs.declared.plan.Plan.{Plan}
-use Rattle.search_terms.specs.Page.{page_next, stop_of}
 use Rattle.wide_product.specs.PaddedParts.{padded_for}
 use Rattle.wide_product.specs.Parts.{parts_of}
-use Rattle.wide_product.specs.Sets.{padded_bytes, wide_passes_at, wide_total, Based}
+use Rattle.wide_product.specs.Sets.{padded_bytes, Based}
 
 -- a set is hopeful, over the bytes of the images: each prefix of its slots is, for the padded plan and the padded images. Where
 -- some bytes are not known, any is
@@ -49,19 +48,6 @@ based_reads told plan from to = sum_by (part_reads told plan) (cut from to (part
 -- the most sectors that are read for a page whose ranks are those from one up to another
 unfoldable pub wide_reads : Option (List (List ℕ)) → Plan → ℕ → ℕ → ℕ
 wide_reads told plan from to = if plan.each then based_reads told plan from to else page_reads told plan from to
-
--- where a page from a rank on ends: where the next one begins, over the bytes of the images where they are known. Where
--- pages failed, the last is the one that could not be made, and ends with its range
-abbrev pub IsPageEnd : Option (List (List ℕ)) → Plan → ℕ → ℕ → Bool → ℕ → ℕ → List ℕ → Type 0
-IsPageEnd told plan size span failed from end later =
-    ((failed ≡ true) × (end ≡ stop_of (wide_total plan) from span) × (later ≡ []))
-    ⊎ ((from ≤ end) × (end ≤ stop_of (wide_total plan) from span) × IfSome told (λ bytes. end ≡ page_next (wide_passes_at bytes plan) (wide_total plan) from size span))
-
--- where pages end, of which there are at most `count`, each where the last one ended
-unfoldable pub ArePageEnds : Option (List (List ℕ)) → Plan → ℕ → ℕ → Bool → ℕ → ℕ → List ℕ → Type 0
-ArePageEnds told plan size span failed count from [] = Unit {0}
-ArePageEnds told plan size span failed zero from (end ∷ later) = ⊥
-ArePageEnds told plan size span failed (suc count) from (end ∷ later) = IsPageEnd told plan size span failed from end later × ArePageEnds told plan size span failed count end later
 
 -- the most sectors that are read for pages that end at these ranks, where each image has an offset of its own: the sum over them
 unfoldable pub based_to : Option (List (List ℕ)) → Plan → ℕ → List ℕ → ℕ

@@ -2,11 +2,9 @@
 ghost use Rattle.std.specs.Prelude.{◌≡◌, true};
 ghost use Rattle.page_engine.specs.Pages.{CanPageWide, GivesPage};
 
-use crate::lines::Lines;
-use crate::page_parts::ListPage;
 use crate::part_walk::gather_parts;
-use common_pages::{CursorFault, PageFault};
-use head_walk::Paging;
+use common_pages::{CursorFault, ListPage, PageFault};
+use head_walk::{Lines, Paging};
 use outside::Images;
 use row_scan::Gate;
 use std::thread::Threads;

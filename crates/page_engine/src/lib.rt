@@ -6,17 +6,13 @@
 #![tactic(auto)]
 
 mod based_page;
-mod common_page;
 mod laws;
 mod lines;
 mod marked;
-mod page_parts;
 mod paging;
 mod part_page;
 mod part_walk;
 
-pub use common_pages::{CursorFault, PageFault};
+pub use common_pages::{CursorFault, Line, Lines, ListPage, PageFault, PageList};
 pub use laws::{passing_sets_are_hopeful, whole_lists_take_the_landmark_test};
-pub use lines::{Line, Lines};
-pub use page_parts::{ListPage, PageList};
 pub use paging::{page, pages};

@@ -1,26 +1,13 @@
 //! Lines of pages.
-ghost use Rattle.std.specs.Prelude.{◌≡◌, ◌+◌, ◌<◌, ◌^◌, false, [], IfOk, MatchOption};
+ghost use Rattle.std.specs.Prelude.{◌≡◌, ◌+◌, ◌<◌, ◌^◌, false, IfOk, MatchOption};
 ghost use Rattle.raid_params.specs.Bases.{greatest_base};
-ghost use Rattle.page_engine.specs.Lines.{AddsPadded, AddsCommon, is_inside, IsPaddedLine};
-ghost use Rattle.wide_product.specs.Sets.{based};
+ghost use Rattle.page_engine.specs.Lines.{AddsPadded, is_inside, IsPaddedLine};
 
 use arrayvec::ArrayVec;
-use head_walk::Line as CommonLine;
-use outside::{ListOf, Memory};
+use head_walk::{Line, Lines};
+use outside::Memory;
 use raid_params::{Geometry, MOST, Slots, Wide};
 use wide_product::Part;
-
-/// A parameter set that passes, with its rank.
-#[derive(Drop)]
-pub struct Line {
-    /// Its position among the parameter sets of the plan, counted from 0.
-    pub rank: u64,
-    /// The parameter set.
-    pub geo: Wide,
-}
-
-/// The lines of a page.
-pub type Lines = ListOf<Line>;
 
 /// A copy of bases.
 fn bases_of(bases: &ArrayVec<u64, MOST>) -> ArrayVec<u64, MOST>
@@ -42,7 +29,7 @@ fn slots_of(slots: &Slots) -> Slots
 
 /// The line of a part for a line of its plan over padded images, where the part's first set has the rank `first`. There is none
 /// for a rank outside the part.
-fn padded_line(part: &Part, first: u64, line: &CommonLine) -> Option<Line>
+fn padded_line(part: &Part, first: u64, line: &Line) -> Option<Line>
     requires fits { part.now.first + part.now.count < 2 ^ 64 }
     requires offset { part.now.head.offset ≡ greatest_base part.now.bases.items }
     ensures { MatchOption result ((is_inside part.now first line.now.rank) ≡ false) (IsPaddedLine part.now first line.now) }
@@ -56,7 +43,7 @@ fn padded_line(part: &Part, first: u64, line: &CommonLine) -> Option<Line>
         geo: Wide {
             geo: Geometry {
                 head: part.head,
-                slots: slots_of(&line.geo.slots),
+                slots: slots_of(&line.geo.geo.slots),
             },
             bases: bases_of(&part.bases),
         },
@@ -67,7 +54,7 @@ fn padded_line(part: &Part, first: u64, line: &CommonLine) -> Option<Line>
 pub(crate) fn add_lines(
     part: &Part,
     first: u64,
-    found: &[CommonLine],
+    found: &[Line],
     lines: &mut Lines,
 ) -> Result<(), Memory>
     requires fits { part.now.first + part.now.count < 2 ^ 64 }
@@ -78,33 +65,6 @@ pub(crate) fn add_lines(
         if let Some(line) = padded_line(part, first, line) {
             lines.push(line)?;
         }
-    }
-    Ok(())
-}
-
-/// The line of a set whose images have a common offset.
-fn common_line(line: &CommonLine) -> Line
-    ensures rank { result.rank ≡ line.now.rank }
-    ensures set { based result.geo ≡ (line.now.geo, []) }
-{
-    Line {
-        rank: line.rank,
-        geo: Wide {
-            geo: Geometry {
-                head: line.geo.head,
-                slots: slots_of(&line.geo.slots),
-            },
-            bases: ArrayVec::new(),
-        },
-    }
-}
-
-/// Appends the lines of sets whose images have a common offset.
-pub(crate) fn add_common(found: &[CommonLine], lines: &mut Lines) -> Result<(), Memory>
-    ensures { IfOk result (λ _. AddsCommon found.now lines.old lines.new) }
-{
-    for line in found {
-        lines.push(common_line(line))?;
     }
     Ok(())
 }

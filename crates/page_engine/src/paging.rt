@@ -3,9 +3,7 @@ ghost use Rattle.std.specs.Prelude.{◌≡◌, ◌≤◌, true};
 ghost use Rattle.page_engine.specs.Pages.{CanPageWide, GivesPage, GivesPages};
 
 use crate::based_page::based_page;
-use crate::common_page::{common_page, common_page_list};
-use crate::page_parts::{ListPage, PageList};
-use common_pages::PageFault;
+use common_pages::{ListPage, PageFault, PageList};
 use head_walk::Paging;
 use outside::Images;
 use row_scan::Gate;
@@ -30,6 +28,9 @@ pub fn page<R: Threads + Sync, I: Images, G: Gate + Sync>(
     requires can { CanPageWide plan.now size (I.seen images.old).attached }
     ensures { GivesPage plan.now from size span (I.seen images.old) (I.seen images.new) result }
 {
+    if !plan.each {
+        return common_pages::page(rt, alloc, images, plan, from, size, span, gate);
+    }
     let paging = Paging {
         rt,
         alloc,
@@ -37,11 +38,7 @@ pub fn page<R: Threads + Sync, I: Images, G: Gate + Sync>(
         size,
         gate,
     };
-    if plan.each {
-        based_page(&paging, images, from, span)
-    } else {
-        common_page(&paging, images, from, span)
-    }
+    based_page(&paging, images, from, span)
 }
 
 /// The pages of a plan from a rank on: the page there, then the page where it goes on, until `count` are made or one goes on at
@@ -62,6 +59,9 @@ pub fn pages<R: Threads + Sync, I: Images, G: Gate + Sync>(
     requires count { 1 ≤ count }
     ensures { GivesPages plan.now size span count from (I.seen images.old) (I.seen images.new) result }
 {
+    if !plan.each {
+        return common_pages::pages(rt, alloc, images, plan, from, size, span, count, gate);
+    }
     let paging = Paging {
         rt,
         alloc,
@@ -69,11 +69,7 @@ pub fn pages<R: Threads + Sync, I: Images, G: Gate + Sync>(
         size,
         gate,
     };
-    if plan.each {
-        based_pages(&paging, images, from, span, count)
-    } else {
-        common_page_list(&paging, images, from, span, count)
-    }
+    based_pages(&paging, images, from, span, count)
 }
 
 /// The pages of a plan from a rank on, where each image has an offset of its own.

@@ -1,13 +1,11 @@
 //! Pages of one part.
-ghost use Rattle.std.specs.Prelude.{◌≡◌, ◌+◌, ◌-◌, ◌<◌, ◌≤◌, ◌^◌, false, true, All, IfErr, IfOk, IfSome, List, length, map};
+ghost use Rattle.std.specs.Prelude.{◌≡◌, ◌+◌, ◌-◌, ◌<◌, ◌≤◌, ◌^◌, false, true, All, IfErr, IfOk, List, length, map};
 ghost use Rattle.outside.specs.Attached.{told_all};
 ghost use Rattle.outside.specs.Seen.{Image, OnlyReads};
 ghost use Rattle.image_padding.specs.Padded.{padded_images};
-ghost use Rattle.common_pages.specs.Pages.{EndsOrFull, IsPageOf, page_reads, tested_to};
-ghost use Rattle.head_walk.specs.Walk.{HoldsSet};
+ghost use Rattle.common_pages.specs.Pages.{EndsOrFull, IsPageFrom, page_reads, tested_to};
 ghost use Rattle.search_terms.specs.Page.{stop_of};
 ghost use Rattle.search_plan.specs.Plans.{AgreeWith, IsPlan};
-ghost use Rattle.plan_sets.specs.Sets.{total_of};
 ghost use Rattle.wide_product.specs.Parts.{IsPartOf};
 ghost use Rattle.wide_product.specs.Sets.{wide_total};
 ghost use Rattle.raid_params.specs.Bases.{greatest_base};
@@ -17,10 +15,10 @@ ghost use Rattle.page_engine.specs.Lines.{AddsPadded};
 ghost use Rattle.page_engine.specs.Parts.{EndsPart, GathersPart, reached};
 ghost use Rattle.page_engine.specs.Reads.{based_reads};
 
-use crate::lines::{Lines, add_lines};
+use crate::lines::add_lines;
 use crate::marked::is_ruled_out;
 use common_pages::{ListPage, PageFault, page};
-use head_walk::Paging;
+use head_walk::{Lines, Paging};
 use outside::Images;
 use padded_images::{BASES_END, Padded};
 use raid_params::MOST;
@@ -45,22 +43,20 @@ pub(crate) fn padded_page<R: Threads + Sync, I: Images, G: Gate + Sync>(
     requires plan { IsPlan plan.now }
     requires common { plan.now.each ≡ false }
     requires lengths { AgreeWith plan.now (padded_images bases.now (I.seen images.old).attached) }
-    requires few { total_of plan.now < 2 ^ 64 }
-    requires from { from ≤ total_of plan.now }
+    requires few { wide_total plan.now < 2 ^ 64 }
+    requires from { from ≤ wide_total plan.now }
     requires size { 1 ≤ size }
     requires some { 0 < length bases.now }
     requires most { length bases.now ≤ MOST }
     requires each { length bases.now ≡ length (I.seen images.old).attached }
     requires near { All (λ base. base < BASES_END) bases.now }
     requires short { All (λ image. image.sectors < BASES_END) (I.seen images.old).attached }
-    ensures page { IfOk result (λ p. IfSome (told_all (padded_images bases.now (I.seen images.old).attached)) (λ bytes. IsPageOf bytes plan.now from size span p)) }
-    ensures sets { IfOk result (λ p. All (HoldsSet plan.now) p.lines) }
-    ensures ended { IfOk result (λ p. EndsOrFull size from (stop_of (total_of plan.now) from span) (length p.lines) p.next) }
-    ensures within { IfOk result (λ p. p.next ≤ stop_of (total_of plan.now) from span) }
+    ensures page { IfOk result (IsPageFrom (told_all (padded_images bases.now (I.seen images.old).attached)) plan.now from size span) }
+    ensures ended { IfOk result (λ p. EndsOrFull size from (stop_of (wide_total plan.now) from span) (length p.lines) p.next) }
     ensures quiet { IfOk result (λ made. (I.seen images.new).faults ≡ (I.seen images.old).faults) }
     ensures ends { IfErr result (EndsPart (I.seen images.old) (I.seen images.new)) }
     ensures reads { OnlyReads (I.seen images.old) (I.seen images.new)
-        (page_reads (told_all (padded_images bases.now (I.seen images.old).attached)) plan.now from (tested_to (stop_of (total_of plan.now) from span) result)) }
+        (page_reads (told_all (padded_images bases.now (I.seen images.old).attached)) plan.now from (tested_to (stop_of (wide_total plan.now) from span) result)) }
 {
     let mut padded = Padded::new(images, bases);
     page(rt, alloc, &mut padded, plan, from, size, span, gate)

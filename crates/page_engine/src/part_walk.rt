@@ -5,14 +5,13 @@ ghost use Rattle.outside.specs.Seen.{OnlyReads};
 ghost use Rattle.page_loop.specs.Parts.{Whole};
 ghost use Rattle.search_plan.specs.Plans.{AgreeWith, IsPlan};
 ghost use Rattle.wide_product.specs.Sets.{wide_passes_at, wide_total};
-ghost use Rattle.page_engine.specs.Lines.{HoldsBased, ranks_of};
+ghost use Rattle.common_pages.specs.Pages.{HoldsBased, ranks_of};
 ghost use Rattle.page_engine.specs.Parts.{EndsPart, reached};
 ghost use Rattle.page_engine.specs.Reads.{based_reads};
 
-use crate::lines::Lines;
 use crate::part_page::gather_part;
 use common_pages::PageFault;
-use head_walk::Paging;
+use head_walk::{Lines, Paging};
 use outside::Images;
 use row_scan::Gate;
 use std::thread::Threads;

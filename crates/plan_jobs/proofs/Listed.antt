@@ -7,7 +7,9 @@ use Rattle.outside.specs.Attached.{told_all}
 use Rattle.outside.specs.Seen.{Seen}
 use Rattle.std.proofs.lemmas.Bool.{cases_lt, eq-eqb, lt-ltb, le-ltb, le-leb}
 use Rattle.std.proofs.lemmas.Bool.Decides.{nat_tests}
+use Rattle.common_pages.specs.Pages.{ArePagesFrom, EndsPage, HoldsBased, IsPageOf}
 use Rattle.common_pages.specs.declared.page_parts.CursorFault.{CursorFault}
+use Rattle.common_pages.specs.declared.page_parts.ListPage.{ListPage}
 use Rattle.common_pages.specs.declared.page_parts.PageFault.{PageFault}
 use Rattle.common_pages.specs.declared.page_parts.PageFault.TheVariants.{Many as PageMany, Cursor as PageCursor, ReadFault, Memory as PageMemory}
 use Rattle.run_ends.proofs.Printed.{order_allowed, rises, stays}
@@ -17,8 +19,7 @@ use Rattle.run_ends.specs.declared.stop.Refusal.TheVariants.{Many, Cursor}
 use Rattle.run_ends.specs.declared.stop.Stop.TheVariants.{Refused, ImageFault, OutOfMemory}
 use Rattle.search_terms.specs.Page.{page_ranks}
 use Rattle.search_plan.specs.declared.plan.Plan.{Plan}
-use Rattle.page_engine.specs.Pages.{ArePagesFrom, EndsBased, GivesPages, IsPageOf}
-use Rattle.page_engine.specs.Lines.{HoldsBased}
+use Rattle.page_engine.specs.Pages.{GivesPages}
 use Rattle.wide_product.specs.Sets.{based, wide_passes_at, wide_sets, wide_total}
 use Rattle.plan_jobs.proofs.PagesRead.{ends_made, none_read}
 use Rattle.plan_jobs.specs.Faults.{stop_of_page}
@@ -29,8 +30,7 @@ use Rattle.command_words.specs.declared.command.Form.{Form}
 use Rattle.command_words.specs.declared.command.Form.TheVariants.{Json}
 use Rattle.json_lines.specs.Objects.{set_object}
 use Rattle.raid_params.specs.declared.wide.Wide.{Wide}
-use Rattle.page_engine.specs.declared.lines.Line.{Line}
-use Rattle.page_engine.specs.declared.page_parts.ListPage.{ListPage}
+use Rattle.head_walk.specs.declared.parts.Line.{Line}
 
 -- lines that hold their sets
 lines_of : (form : Form) (plan : Plan) (lines : List Line) → All (HoldsBased plan) lines → flat_map (line_of form plan) (map (λ (held : Line). held.rank) lines) ≡ flat_map (λ (held : Line). line_in form held.rank (based held.geo)) lines
@@ -186,10 +186,10 @@ not_many plan fault many other high = other (let e = many high in cc)
 -- why pages could not be made
 pub list_fault : (asked : Listing) (names : ℕ) (plan : Plan) (old new : Seen) (fault : PageFault) → GivesPages plan asked.size asked.span asked.pages asked.from old new (Err fault) → AnswersOver (list_over asked) names plan old new (Err (stop_of_page fault))
 list_fault asked names plan old new PageMany gives =
-    let ends : EndsBased plan asked.from old new PageMany = gives.ends in
+    let ends : EndsPage plan asked.from old new PageMany = gives.ends in
     refused_page asked names plan old new Many ends.1 (many_first plan asked.from ends.0)
 list_fault asked names plan old new (PageCursor fault) gives =
-    let ends : EndsBased plan asked.from old new (PageCursor fault) = gives.ends in
+    let ends : EndsPage plan asked.from old new (PageCursor fault) = gives.ends in
     let low : wide_total plan < 2 ^ 64 = elim (cases_lt (wide_total plan) (2 ^ 64)) [ inl low ↦ low | inr high ↦ absurd (not_many plan (PageCursor fault) gives.many (λ e. cc) high) ] in
     refused_page asked names plan old new (Cursor (record { from = fault.from; total = fault.total })) ends.2
     (cursor_first plan asked.from low ends.0 ∙ sym (ap (λ (f : CursorFault). Some (Cursor (record { from = f.from; total = f.total }))) ends.1))

@@ -1,7 +1,7 @@
 -- What is read for pages is what `list` reads.
 use Rattle.std.proofs.Common.{ℕ, zero, suc, List, [], ◌∷◌, Option, Bool, false, arith, inl, inr}
 use Rattle.search_plan.specs.declared.plan.Plan.{Plan}
-use Rattle.page_engine.specs.Reads.{ArePageEnds, IsPageEnd}
+use Rattle.common_pages.specs.Pages.{ArePageEnds, IsPageEnd}
 use Rattle.plan_jobs.specs.Listing.{ListReads}
 use Rattle.plan_jobs.specs.declared.listing.Listing.{Listing}
 

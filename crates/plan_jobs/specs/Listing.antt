@@ -8,8 +8,9 @@ use Rattle.outside.specs.Attached.{told_all}
 use Rattle.search_terms.specs.Page.{page_next, page_ranks}
 use Rattle.search_plan.specs.declared.plan.Plan.{Plan}
 use Rattle.wide_product.specs.Sets.{based, wide_passes_at, wide_sets, wide_total, Based}
-use Rattle.page_engine.specs.Reads.{ArePageEnds, wide_reads_to}
-use Rattle.page_engine.specs.declared.page_parts.ListPage.{ListPage}
+use Rattle.common_pages.specs.Pages.{ArePageEnds}
+use Rattle.page_engine.specs.Reads.{wide_reads_to}
+use Rattle.common_pages.specs.declared.page_parts.ListPage.{ListPage}
 use Rattle.value_text.specs.SetText.{word_with}
 use Rattle.value_text.specs.Spelling.{line, named}
 use Rattle.serde_json.specs.Written.{compact_text}

@@ -1,5 +1,5 @@
 -- What the survey of a generated array is asked for.
-use Rattle.std.proofs.Common.{◌≡◌, ℕ, ◌+◌, ◌*◌, ◌<◌, ◌≤◌, ◌^◌, Bool, cond, true, false, List, [], ◌∷◌, length, All, IfSome, None, Some, Option, refl, sym, ap, subst, arith, lit≤, inl, inr, IsTrue}
+use Rattle.std.proofs.Common.{◌≡◌, ℕ, ◌+◌, ◌*◌, ◌<◌, ◌≤◌, ◌^◌, Bool, cond, true, false, List, [], ◌∷◌, length, All, None, Some, Option, refl, sym, ap, subst, arith, lit≤, inl, inr, IsTrue}
 use Rattle.std.proofs.lemmas.List.Elements.{All-cons, All-nil, All-weaker}
 use Rattle.std.proofs.lemmas.List.Sums.{sum_by-cons}
 use Rattle.std.specs.Option.{is_some}

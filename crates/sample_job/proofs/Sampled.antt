@@ -4,7 +4,8 @@ use Rattle.std.proofs.lemmas.Bool.{cases_lt}
 use Rattle.std.proofs.lemmas.Bool.Decides.{nat_tests}
 use Rattle.outside.specs.Attached.{told_all}
 use Rattle.outside.specs.Seen.{Image}
-use Rattle.common_pages.specs.Pages.{IsPageOf}
+use Rattle.common_pages.proofs.HeadByHead.{passes_are}
+use Rattle.common_pages.specs.Pages.{IsPageOf, ranks_of}
 use Rattle.head_walk.specs.declared.parts.Line.{Line}
 use Rattle.common_pages.specs.declared.page_parts.ListPage.{ListPage}
 use Rattle.std.specs.List.{list_any}
@@ -18,9 +19,13 @@ use Rattle.run_ends.specs.declared.stop.Refusal.{Refusal}
 use Rattle.run_ends.specs.declared.stop.Refusal.TheVariants.{Many}
 use Rattle.run_ends.specs.declared.stop.Stop.{Stop}
 use Rattle.sample_arrays.specs.Arrays.{end_of, sampled, IsFile}
-use Rattle.plan_sets.specs.Sets.{rank_of, total_of}
+use Rattle.plan_sets.specs.Sets.{passes_at, rank_of, total_of}
+use Rattle.search_terms.specs.Page.{IsPage}
+use Rattle.wide_product.proofs.Products.{common_total}
+use Rattle.wide_product.specs.Sets.{wide_total}
 use Rattle.search_plan.specs.declared.plan.Plan.{Plan}
 use Rattle.survey_job.specs.Surveying.{survey_plan}
+use Rattle.sample_job.proofs.Asked.{sample_common}
 use Rattle.sample_job.proofs.Attached.{all_told}
 use Rattle.sample_arrays.specs.Laws.{sampled_bytes}
 
@@ -39,11 +44,18 @@ plan_is number set rows xfs end attached plan long there is made =
     here ∙ ap (λ (e : ℕ). survey_plan (sample_ask set e) attached (sampled_bytes number set rows xfs)) is
     ∙ ap (λ (images : List Image). survey_plan (sample_ask set (end_of set.head rows)) images (sampled_bytes number set rows xfs)) there
 
+-- the page of a plan of images with a common offset
+common_page : (images : List (List ℕ)) (plan : Plan) (page : ListPage) → plan.each ≡ false → IsPageOf images plan 0 1000 (2 ^ 64 - 1) page → IsPage (passes_at images plan) (total_of plan) 0 1000 (2 ^ 64 - 1) (ranks_of page.lines) page.next
+common_page images plan page each is =
+    let P : (ℕ → Bool) → Type 0 = λ p. IsPage p (wide_total plan) 0 1000 (2 ^ 64 - 1) (ranks_of page.lines) page.next in
+    let Q : ℕ → Type 0 = λ t. IsPage (passes_at images plan) t 0 1000 (2 ^ 64 - 1) (ranks_of page.lines) page.next in
+    subst Q (common_total plan each) (subst P (sym (passes_are images plan each)) is)
+
 -- and the lines are those of the array
-lines_are : (set : Geometry) (end : ℕ) (images : List (List ℕ)) (plan : Plan) (page : ListPage) → IsPageOf images plan 0 1000 (2 ^ 64 - 1) page → page.total ≡ total_of plan →
+lines_are : (set : Geometry) (end : ℕ) (images : List (List ℕ)) (plan : Plan) (page : ListPage) → plan.each ≡ false → IsPageOf images plan 0 1000 (2 ^ 64 - 1) page → page.total ≡ total_of plan →
     found_text set end plan page ≡ sample_text set end images plan
 unfolding found_text sample_text
-lines_are set end images plan page is total = rw (is.front, is.goes_on, total) refl
+lines_are set end images plan page each found total = let is = common_page images plan page each found in rw (is.front, is.goes_on, total) refl
 
 pub text_is : (number : ℕ) (set : Geometry) (rows : ℕ) (xfs : Bool) (end : ℕ) (attached : List Image) (plan : Plan) (page : ListPage) (text : List ℕ) →
     All (IsFile (end_of set.head rows)) (sampled number set rows xfs) → attached ≡ sampled_images number set rows xfs → end ≡ end_of set.head rows → plan ≡ sample_plan number set rows xfs →
@@ -52,7 +64,8 @@ unfolding sample_output
 text_is number set rows xfs end attached plan page text long there is made found total lines =
     let here : IsPageOf (sampled_bytes number set rows xfs) plan 0 1000 (2 ^ 64 - 1) page =
     subst (λ (t : Option (List (List ℕ))). IfSome t (λ bytes. IsPageOf bytes plan 0 1000 (2 ^ 64 - 1) page)) (told number set rows xfs attached long there) found in
-    lines ∙ lines_are set end (sampled_bytes number set rows xfs) plan page here total
+    let each = ap (λ (p : Plan). p.each) made ∙ sample_common number set rows xfs in
+    lines ∙ lines_are set end (sampled_bytes number set rows xfs) plan page each here total
     ∙ ap (λ (e : ℕ). sample_text set e (sampled_bytes number set rows xfs) plan) is
     ∙ ap (λ (p : Plan). sample_text set (end_of set.head rows) (sampled_bytes number set rows xfs) p) made
 

@@ -261,6 +261,7 @@ fn plan_of(alloc: Global, images: &mut OwnImages, ask: &Ask) -> Result<Plan, Mem
 }
 
 /// The first page of the sets of a plan that pass, or why there is none.
+#[tactic(auto, using(wide_product::proofs::Products::common_total))]
 fn first_page<R: Threads + Sync, G: Gate + Sync>(
     tools: &Tools<R, G>,
     images: &mut OwnImages,

@@ -1,5 +1,8 @@
-use Rattle.std.proofs.Common.{List, rules, ◌≡◌, ◌≤◌, ℕ, Ok, ap, refl, sym, subst, arith}
+use Rattle.std.proofs.Common.{List, rules, ◌≡◌, ◌≤◌, ◌<◌, ◌^◌, ◌∙◌, ℕ, Ok, length, ap, refl, sym, subst, arith}
 use Rattle.plan_sets.specs.Sets.{total_of}
+use Rattle.wide_product.proofs.Products.{common_total}
+use Rattle.wide_product.specs.Sets.{wide_total}
+use Rattle.common_pages.specs.Pages.{EndsOrFull}
 use Rattle.search_terms.specs.Page.{stop_of}
 use Rattle.outside.specs.Attached.{told_all}
 use Rattle.outside.specs.Seen.{Image, Seen}
@@ -8,7 +11,7 @@ use Rattle.head_walk.specs.Walk.{left_reads, ReadsRange}
 use Rattle.head_walk.specs.declared.gathering.Gathered.{Gathered}
 use Rattle.head_walk.proofs.Kept.{none_left}
 use Rattle.head_walk.proofs.OneHead.{reads_full, stands_first}
-use Rattle.common_pages.proofs.HeadByHead.{IsWhole, reads_tested, reads_untested, tested_err, whole_full, whole_tested}
+use Rattle.common_pages.proofs.HeadByHead.{IsWhole, page_from, reads_tested, reads_untested, tested_err, whole_full, whole_tested}
 use Rattle.common_pages.proofs.paging.next_page.Goals.{in-Some, in-None+in_ok-next-in-None}
 use Rattle.common_pages.proofs.paging.next_page.Goals as goal
 
@@ -18,47 +21,41 @@ gather_range-requires-clause-stands g c κs within =
 
 pub returns-in_err-next-in-None-clause-reads : goal.returns-in_err-next-in-None-clause-reads
 returns-in_err-next-in-None-clause-reads g c =
-    let total : c.in_ok-total.total ≡ total_of c.args.paging.now.plan.now = search rules in
+    let total : c.in_ok-total.total ≡ wide_total c.args.paging.now.plan.now = search rules in
     let low : c.args.from ≤ c.in_ok-total.total = search rules in
-    let stop : c.min-stop.result ≡ stop_of (total_of c.args.paging.now.plan.now) c.args.from c.args.span = omega arith in
+    let stop : c.min-stop.result ≡ stop_of (wide_total c.args.paging.now.plan.now) c.args.from c.args.span = omega arith in
     let P : ℕ → Type 0 = λ n. ReadsRange (told_all (g.I.Images.seen c.args.images.now).attached) c.args.paging.now.plan.now c.args.from n 4095 (left_reads c.args.paging.now.plan.now c.args.kept.now) 0 (g.I.Images.seen c.args.images.now) (g.I.Images.seen c.finish.new.images) in
-    rw (tested_err (stop_of (total_of c.args.paging.now.plan.now) c.args.from c.args.span) c.from_residual-in_err-next-in-None.result c.from_residual-in_err-next-in-None.ensures.0, none_left c.args.paging.now.plan.now c.gather_range.new.kept c.from_residual-in_err-next-in-None.result c.from_residual-in_err-next-in-None.ensures.0)
+    rw (tested_err (stop_of (wide_total c.args.paging.now.plan.now) c.args.from c.args.span) c.from_residual-in_err-next-in-None.result c.from_residual-in_err-next-in-None.ensures.0, none_left c.args.paging.now.plan.now c.gather_range.new.kept c.from_residual-in_err-next-in-None.result c.from_residual-in_err-next-in-None.ensures.0)
     (subst P stop
     (reads_untested (g.I.Images.seen c.args.images.now).attached (g.I.Images.seen c.gather_range.new.images).attached c.args.paging.now.plan.now c.args.paging.now.size c.min-stop.result (left_reads c.args.paging.now.plan.now c.args.kept.now) c.gather_range.new.kept (g.I.Images.seen c.args.images.now) (g.I.Images.seen c.gather_range.new.images) (g.I.Images.seen c.finish.new.images) (record { lines = c.new.result; tested = c.args.from; waiting = c.none.result }) c.gather_range.new.page c.finish.new.page c.in_ok-next.field-0 c.finish.result c.in_ok-next.ensures.reads.spends.reads.attached c.in-None.is (search rules)
     c.in_ok-next.ensures.gathers c.in_ok-next.ensures.reads c.finish.ensures.finishes c.finish.ensures.reads))
 
 pub returns-clause-page : goal.returns-clause-page
 returns-clause-page g c =
-    let total : c.in_ok-total.total ≡ total_of c.args.paging.now.plan.now = search rules in
+    let same = common_total c.args.paging.now.plan.now c.requires.common in
+    let wide : c.in_ok-total.total ≡ wide_total c.args.paging.now.plan.now = search rules in
+    let total : c.in_ok-total.total ≡ total_of c.args.paging.now.plan.now = wide ∙ same in
     let low : c.args.from ≤ c.in_ok-total.total = search rules in
     let P : Gathered → ℕ → Type 0 = λ page next. IsWhole (told_all (g.I.Images.seen c.args.images.now).attached) c.args.paging.now.plan.now c.args.from c.args.paging.now.size c.args.span page.lines next in
     let whole : P c.match-branch-3.page c.match-branch-3.next = elim c.match-branch-3.branch [
       | in-Some w ↦ subst (P c.match-branch-3.page) (sym w.next-is) (subst (λ (page : Gathered). P page w.in-Some.next) (sym w.page-is) (whole_full (g.I.Images.seen c.args.images.now).attached c.args.paging.now.plan.now c.args.from c.min-stop.result c.args.paging.now.size c.args.span w.in-Some.next (record { lines = c.new.result; tested = c.args.from; waiting = c.none.result }) c.gather_range.new.page c.in_ok-next.field-0 c.new.ensures refl (omega arith) (omega arith) w.in-Some.is c.in_ok-next.ensures.gathers))
       | in-None+in_ok-next-in-None w ↦ subst (P c.match-branch-3.page) (sym w.next-is) (subst (λ (page : Gathered). P page w.in_ok-next-in-None.next) (sym w.page-is) (whole_tested (g.I.Images.seen c.args.images.now).attached (g.I.Images.seen c.gather_range.new.images).attached c.args.paging.now.plan.now c.args.from c.min-stop.result c.args.paging.now.size c.args.span w.in_ok-next-in-None.next (record { lines = c.new.result; tested = c.args.from; waiting = c.none.result }) c.gather_range.new.page w.finish.new.page c.in_ok-next.field-0 c.in_ok-next.ensures.reads.spends.reads.attached c.new.ensures refl (omega arith) (omega arith) w.in-None.is c.in_ok-next.ensures.gathers w.in_ok-next-in-None.ensures.finishes))
     ] in
-    whole.page
-
-pub returns-clause-sets : goal.returns-clause-sets
-returns-clause-sets g c =
-    let total : c.in_ok-total.total ≡ total_of c.args.paging.now.plan.now = search rules in
-    let low : c.args.from ≤ c.in_ok-total.total = search rules in
-    let P : Gathered → ℕ → Type 0 = λ page next. IsWhole (told_all (g.I.Images.seen c.args.images.now).attached) c.args.paging.now.plan.now c.args.from c.args.paging.now.size c.args.span page.lines next in
-    let whole : P c.match-branch-3.page c.match-branch-3.next = elim c.match-branch-3.branch [
-      | in-Some w ↦ subst (P c.match-branch-3.page) (sym w.next-is) (subst (λ (page : Gathered). P page w.in-Some.next) (sym w.page-is) (whole_full (g.I.Images.seen c.args.images.now).attached c.args.paging.now.plan.now c.args.from c.min-stop.result c.args.paging.now.size c.args.span w.in-Some.next (record { lines = c.new.result; tested = c.args.from; waiting = c.none.result }) c.gather_range.new.page c.in_ok-next.field-0 c.new.ensures refl (omega arith) (omega arith) w.in-Some.is c.in_ok-next.ensures.gathers))
-      | in-None+in_ok-next-in-None w ↦ subst (P c.match-branch-3.page) (sym w.next-is) (subst (λ (page : Gathered). P page w.in_ok-next-in-None.next) (sym w.page-is) (whole_tested (g.I.Images.seen c.args.images.now).attached (g.I.Images.seen c.gather_range.new.images).attached c.args.paging.now.plan.now c.args.from c.min-stop.result c.args.paging.now.size c.args.span w.in_ok-next-in-None.next (record { lines = c.new.result; tested = c.args.from; waiting = c.none.result }) c.gather_range.new.page w.finish.new.page c.in_ok-next.field-0 c.in_ok-next.ensures.reads.spends.reads.attached c.new.ensures refl (omega arith) (omega arith) w.in-None.is c.in_ok-next.ensures.gathers w.in_ok-next-in-None.ensures.finishes))
-    ] in
-    whole.sets
+    page_from (told_all (g.I.Images.seen c.args.images.now).attached) c.args.paging.now.plan.now c.args.from c.args.paging.now.size c.args.span _ c.requires.common whole wide
 
 pub returns-clause-ended : goal.returns-clause-ended
 returns-clause-ended g c =
-    let total : c.in_ok-total.total ≡ total_of c.args.paging.now.plan.now = search rules in
+    let same = common_total c.args.paging.now.plan.now c.requires.common in
+    let wide : c.in_ok-total.total ≡ wide_total c.args.paging.now.plan.now = search rules in
+    let total : c.in_ok-total.total ≡ total_of c.args.paging.now.plan.now = wide ∙ same in
     let low : c.args.from ≤ c.in_ok-total.total = search rules in
     let P : Gathered → ℕ → Type 0 = λ page next. IsWhole (told_all (g.I.Images.seen c.args.images.now).attached) c.args.paging.now.plan.now c.args.from c.args.paging.now.size c.args.span page.lines next in
     let whole : P c.match-branch-3.page c.match-branch-3.next = elim c.match-branch-3.branch [
       | in-Some w ↦ subst (P c.match-branch-3.page) (sym w.next-is) (subst (λ (page : Gathered). P page w.in-Some.next) (sym w.page-is) (whole_full (g.I.Images.seen c.args.images.now).attached c.args.paging.now.plan.now c.args.from c.min-stop.result c.args.paging.now.size c.args.span w.in-Some.next (record { lines = c.new.result; tested = c.args.from; waiting = c.none.result }) c.gather_range.new.page c.in_ok-next.field-0 c.new.ensures refl (omega arith) (omega arith) w.in-Some.is c.in_ok-next.ensures.gathers))
       | in-None+in_ok-next-in-None w ↦ subst (P c.match-branch-3.page) (sym w.next-is) (subst (λ (page : Gathered). P page w.in_ok-next-in-None.next) (sym w.page-is) (whole_tested (g.I.Images.seen c.args.images.now).attached (g.I.Images.seen c.gather_range.new.images).attached c.args.paging.now.plan.now c.args.from c.min-stop.result c.args.paging.now.size c.args.span w.in_ok-next-in-None.next (record { lines = c.new.result; tested = c.args.from; waiting = c.none.result }) c.gather_range.new.page w.finish.new.page c.in_ok-next.field-0 c.in_ok-next.ensures.reads.spends.reads.attached c.new.ensures refl (omega arith) (omega arith) w.in-None.is c.in_ok-next.ensures.gathers w.in_ok-next-in-None.ensures.finishes))
     ] in
-    whole.ended
+    let Q : ℕ → Type 0 = λ t. EndsOrFull c.args.paging.now.size c.args.from (stop_of t c.args.from c.args.span) (length c.match-branch-3.page.lines) c.match-branch-3.next in
+    subst Q (sym same) whole.ended
 
 pub returns-clause-reads : goal.returns-clause-reads
 returns-clause-reads g c =
@@ -73,9 +70,15 @@ returns-clause-reads g c =
     ]
 
 pub gather_range-requires-clause-can : goal.gather_range-requires-clause-can
-gather_range-requires-clause-can g c κs within = record { is_plan = c.requires.plan; few = search rules; some = c.requires.size; agrees = c.requires.lengths }
+gather_range-requires-clause-can g c κs within = record { is_plan = c.requires.plan; few = (let same = common_total c.args.paging.now.plan.now c.requires.common in let few : wide_total c.args.paging.now.plan.now < 2 ^ 64 = search rules in omega arith); some = c.requires.size; agrees = c.requires.lengths }
 
 pub finish-requires-clause-can : goal.finish-requires-clause-can
 finish-requires-clause-can g c κs within =
     let P : List Image → Type 0 = λ attached. AgreeWith c.args.paging.now.plan.now attached in
-    record { is_plan = c.requires.plan; few = search rules; some = c.requires.size; agrees = subst P (sym c.in_ok-next.ensures.reads.spends.reads.attached) c.requires.lengths }
+    record { is_plan = c.requires.plan; few = (let same = common_total c.args.paging.now.plan.now c.requires.common in let few : wide_total c.args.paging.now.plan.now < 2 ^ 64 = search rules in omega arith); some = c.requires.size; agrees = subst P (sym c.in_ok-next.ensures.reads.spends.reads.attached) c.requires.lengths }
+
+pub gather_range-requires-clause-stop : goal.gather_range-requires-clause-stop
+gather_range-requires-clause-stop g c κs within =
+    let same = common_total c.args.paging.now.plan.now c.requires.common in
+    let wide : c.in_ok-total.total ≡ wide_total c.args.paging.now.plan.now = search rules in
+    omega arith

@@ -2,7 +2,7 @@ use Rattle.std.proofs.Common.{◌≤◌, List, All, sym, subst}
 use Rattle.outside.specs.Attached.{told_all}
 use Rattle.std.proofs.lemmas.List.Elements.{All-nil}
 use Rattle.search_terms.specs.Page.{stop_of}
-use Rattle.plan_sets.specs.Sets.{total_of}
+use Rattle.wide_product.specs.Sets.{wide_total}
 use Rattle.common_pages.specs.Pages.{table_reads, tested_to}
 use Rattle.head_walk.specs.Walk.{left_after, left_reads, IsKept}
 use Rattle.head_walk.specs.declared.row_tables.OffsetTables.{OffsetTables}
@@ -16,7 +16,7 @@ next_page-requires-clause-kept g c κs within =
 
 pub returns-clause-reads : goal.returns-clause-reads
 returns-clause-reads g c =
-    page_scans (told_all (g.I.Images.seen c.args.images.now).attached) c.args.plan.now c.args.from (tested_to (stop_of (total_of c.args.plan.now) c.args.from c.args.span) c.next_page.result)
+    page_scans (told_all (g.I.Images.seen c.args.images.now).attached) c.args.plan.now c.args.from (tested_to (stop_of (wide_total c.args.plan.now) c.args.from c.args.span) c.next_page.result)
     (left_reads c.args.plan.now c.new-kept.result) (left_after c.args.plan.now c.next_page.new.kept c.next_page.result) (g.I.Images.seen c.args.images.now) (g.I.Images.seen c.next_page.new.images)
     (subst (λ (kept : List OffsetTables). left_reads c.args.plan.now kept ≤ table_reads c.args.plan.now) (sym c.new-kept.ensures) (left_all c.args.plan.now))
     c.next_page.ensures.reads

@@ -5,7 +5,7 @@ use Rattle.std.proofs.lemmas.List.Elements.{All-nil}
 use Rattle.outside.specs.Attached.{told_all}
 use Rattle.outside.specs.Seen.{Image}
 use Rattle.search_terms.specs.Page.{stop_of}
-use Rattle.plan_sets.specs.Sets.{total_of}
+use Rattle.wide_product.specs.Sets.{wide_total}
 use Rattle.common_pages.specs.Pages.{ArePagesFrom, IsPageFrom, scans_to}
 use Rattle.head_walk.specs.Counts.{most_scanned}
 use Rattle.head_walk.specs.Walk.{left_reads, IsKept, Spends}
@@ -36,13 +36,13 @@ pub returns-in_err-found-clause-reads : goal.returns-in_err-found-clause-reads
 returns-in_err-found-clause-reads g c =
     let far = c.loop.invariant in
     reads_ended (told_all (g.I.Images.seen c.args.images.now).attached) c.args.plan.now c.args.size c.args.span (is_err c.from_residual.result) c.args.count c.args.from c.loop.at (left_reads c.args.plan.now []) (left_reads c.args.plan.now c.loop.kept) 0 c.loop.made (g.I.Images.seen c.args.images.now) (g.I.Images.seen c.loop.images) (g.I.Images.seen c.next_page.new.images) (left_all c.args.plan.now) far.going (let made = far.made in omega arith) c.from_residual.ensures.0 far.reads
-    (scans_told (g.I.Images.seen c.args.images.now).attached (g.I.Images.seen c.loop.images).attached c.args.plan.now c.loop.at (stop_of (total_of c.args.plan.now) c.loop.at c.args.span) 4095 (left_reads c.args.plan.now c.loop.kept) 0 (g.I.Images.seen c.loop.images) (g.I.Images.seen c.next_page.new.images) far.reads.reads.attached c.in_err-found.ensures.reads)
+    (scans_told (g.I.Images.seen c.args.images.now).attached (g.I.Images.seen c.loop.images).attached c.args.plan.now c.loop.at (stop_of (wide_total c.args.plan.now) c.loop.at c.args.span) 4095 (left_reads c.args.plan.now c.loop.kept) 0 (g.I.Images.seen c.loop.images) (g.I.Images.seen c.next_page.new.images) far.reads.reads.attached c.in_err-found.ensures.reads)
 
 pub returns-in_err-map_err-clause-reads : goal.returns-in_err-map_err-clause-reads
 returns-in_err-map_err-clause-reads g c =
     let far = c.loop.invariant in
     let Q : List Image → Type 0 = λ attached. IsPageFrom (told_all attached) c.args.plan.now c.loop.at c.args.size c.args.span c.in_ok-found.found in
-    let is_page = subst Q far.reads.reads.attached (record { page = c.in_ok-found.ensures.page; sets = c.in_ok-found.ensures.sets; total = c.in_ok-found.ensures.total; forward = c.in_ok-found.ensures.forward; within = c.in_ok-found.ensures.within }) in
+    let is_page = subst Q far.reads.reads.attached c.in_ok-found.ensures.page in
     reads_more (told_all (g.I.Images.seen c.args.images.now).attached) c.args.plan.now c.args.size c.args.span (is_err c.from_residual-in_err-map_err.result) c.args.count c.args.from c.loop.at (left_reads c.args.plan.now []) (left_reads c.args.plan.now c.loop.kept) (left_reads c.args.plan.now c.next_page.new.kept) c.loop.made c.in_ok-found.found (g.I.Images.seen c.args.images.now) (g.I.Images.seen c.loop.images) (g.I.Images.seen c.next_page.new.images) (left_all c.args.plan.now) far.going (let made = far.made in omega arith) is_page far.reads
     (scans_told (g.I.Images.seen c.args.images.now).attached (g.I.Images.seen c.loop.images).attached c.args.plan.now c.loop.at c.in_ok-found.found.next 4095 (left_reads c.args.plan.now c.loop.kept) (left_reads c.args.plan.now c.next_page.new.kept) (g.I.Images.seen c.loop.images) (g.I.Images.seen c.next_page.new.images) far.reads.reads.attached c.in_ok-found.ensures.reads)
 
@@ -52,15 +52,15 @@ returns-then-next-total-clause-pages g c =
     let pushed : c.push.new.self ≡ c.loop.made ++ c.in_ok-found.found ∷ [] = search rules in
     let P : List ListPage → Type 0 = λ made. ArePagesFrom (told_all (g.I.Images.seen c.args.images.now).attached) c.args.plan.now c.args.size c.args.span c.args.count c.args.from made in
     let Q : List Image → Type 0 = λ attached. IsPageFrom (told_all attached) c.args.plan.now c.loop.at c.args.size c.args.span c.in_ok-found.found in
-    let is_page = subst Q far.reads.reads.attached (record { page = c.in_ok-found.ensures.page; sets = c.in_ok-found.ensures.sets; total = c.in_ok-found.ensures.total; forward = c.in_ok-found.ensures.forward; within = c.in_ok-found.ensures.within }) in
+    let is_page = subst Q far.reads.reads.attached c.in_ok-found.ensures.page in
     subst P (sym pushed)
-    (the_last (told_all (g.I.Images.seen c.args.images.now).attached) c.args.plan.now c.args.size c.args.span c.args.count c.args.from c.loop.at c.loop.made c.in_ok-found.found far.going is_page (c.if-next-total.true ∙ c.in_ok-found.ensures.total) (let made = far.made in omega arith))
+    (the_last (told_all (g.I.Images.seen c.args.images.now).attached) c.args.plan.now c.args.size c.args.span c.args.count c.args.from c.loop.at c.loop.made c.in_ok-found.found far.going is_page (c.if-next-total.true ∙ c.in_ok-found.ensures.page.total) (let made = far.made in omega arith))
 
 pub returns-then-next-total-clause-reads : goal.returns-then-next-total-clause-reads
 returns-then-next-total-clause-reads g c =
     let far = c.loop.invariant in
     let Q : List Image → Type 0 = λ attached. IsPageFrom (told_all attached) c.args.plan.now c.loop.at c.args.size c.args.span c.in_ok-found.found in
-    let is_page = subst Q far.reads.reads.attached (record { page = c.in_ok-found.ensures.page; sets = c.in_ok-found.ensures.sets; total = c.in_ok-found.ensures.total; forward = c.in_ok-found.ensures.forward; within = c.in_ok-found.ensures.within }) in
+    let is_page = subst Q far.reads.reads.attached c.in_ok-found.ensures.page in
     reads_more (told_all (g.I.Images.seen c.args.images.now).attached) c.args.plan.now c.args.size c.args.span false c.args.count c.args.from c.loop.at (left_reads c.args.plan.now []) (left_reads c.args.plan.now c.loop.kept) (left_reads c.args.plan.now c.next_page.new.kept) c.loop.made c.in_ok-found.found (g.I.Images.seen c.args.images.now) (g.I.Images.seen c.loop.images) (g.I.Images.seen c.next_page.new.images) (left_all c.args.plan.now) far.going (let made = far.made in omega arith) is_page far.reads
     (scans_told (g.I.Images.seen c.args.images.now).attached (g.I.Images.seen c.loop.images).attached c.args.plan.now c.loop.at c.in_ok-found.found.next 4095 (left_reads c.args.plan.now c.loop.kept) (left_reads c.args.plan.now c.next_page.new.kept) (g.I.Images.seen c.loop.images) (g.I.Images.seen c.next_page.new.images) far.reads.reads.attached c.in_ok-found.ensures.reads)
 
@@ -69,21 +69,21 @@ loop-preserved g c =
     let far = c.loop.invariant in
     let pushed : c.push.new.self ≡ c.loop.made ++ c.in_ok-found.found ∷ [] = search rules in
     let Q : List Image → Type 0 = λ attached. IsPageFrom (told_all attached) c.args.plan.now c.loop.at c.args.size c.args.span c.in_ok-found.found in
-    let is_page = subst Q far.reads.reads.attached (record { page = c.in_ok-found.ensures.page; sets = c.in_ok-found.ensures.sets; total = c.in_ok-found.ensures.total; forward = c.in_ok-found.ensures.forward; within = c.in_ok-found.ensures.within }) in
-    let within = c.in_ok-found.ensures.within in
-    let total = c.in_ok-found.ensures.total in
-    let small : total_of c.args.plan.now < 2 ^ 64 =
-    (elim (cases_lt (total_of c.args.plan.now) (2 ^ 64)) [
+    let is_page = subst Q far.reads.reads.attached c.in_ok-found.ensures.page in
+    let within = c.in_ok-found.ensures.page.within in
+    let total = c.in_ok-found.ensures.page.total in
+    let small : wide_total c.args.plan.now < 2 ^ 64 =
+    (elim (cases_lt (wide_total c.args.plan.now) (2 ^ 64)) [
       | inl few ↦ few
       | inr many ↦ absurd (not_an_error c.in_ok-found.found Many (c.in_ok-found.ensures.many many))
     ]) in
     record {
       going = (let P : List ListPage → Type 0 = λ made. Going (told_all (g.I.Images.seen c.args.images.now).attached) c.args.plan.now c.args.size c.args.span c.args.from c.in_ok-found.found.next made in
           subst P (sym pushed) (one_more (told_all (g.I.Images.seen c.args.images.now).attached) c.args.plan.now c.args.size c.args.span c.args.from c.loop.at c.loop.made c.in_ok-found.found far.going is_page
-          (below_total c.in_ok-found.found.next c.in_ok-found.found.total (total_of c.args.plan.now) c.args.span c.loop.at c.if-next-total.false total within)));
+          (below_total c.in_ok-found.found.next c.in_ok-found.found.total (wide_total c.args.plan.now) c.args.span c.loop.at c.if-next-total.false total within)));
       made = ap length pushed ∙ length-append c.loop.made (c.in_ok-found.found ∷ []) ∙ ap (λ (n : ℕ). n + 1) far.made;
       quiet = search rules;
-      forward = (let low = far.forward in let up = c.in_ok-found.ensures.forward in omega arith);
+      forward = (let low = far.forward in let up = c.in_ok-found.ensures.page.forward in omega arith);
       begun = inr ((omega arith), (omega arith), small);
       reads = (let P : List ℕ → Type 0 = λ ends. Spends (left_reads c.args.plan.now []) (left_reads c.args.plan.now c.next_page.new.kept) (g.I.Images.seen c.args.images.now) (g.I.Images.seen c.next_page.new.images) (scans_to (told_all (g.I.Images.seen c.args.images.now).attached) c.args.plan.now c.args.from ends * most_scanned c.args.plan.now) in
           subst P (sym (ap ends_of pushed ∙ ends_with c.loop.made c.in_ok-found.found))

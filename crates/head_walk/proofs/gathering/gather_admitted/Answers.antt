@@ -3,7 +3,7 @@ use Rattle.outside.specs.Attached.{told_all}
 use Rattle.outside.specs.Seen.{Image}
 use Rattle.slot_math.specs.declared.space.Space.{Space}
 use Rattle.candidate_enum.specs.Survivors.{question, survivors}
-use Rattle.head_walk.specs.Walk.{AreWaiting, CanPage, is_admitted, lines_of, Wait}
+use Rattle.head_walk.specs.Walk.{AreWaiting, CanPage, is_admitted, ranked_sets, Wait}
 use Rattle.head_walk.proofs.Candidates.{is_many, is_short, pushed_below, scan_by, waits_more, waits_on}
 use Rattle.head_walk.proofs.OneHead.{fills_on, gathers_all, gathers_full, reads_err, reads_none, reads_some, reads_stop, scans_ended, scans_full}
 use Rattle.head_walk.proofs.Leafwise.{begins, ended, failed, gathered, next_leaf, waits}
@@ -162,7 +162,7 @@ scan_waiting-requires-clause-wait g c κs within =
     let are : AreWaiting c.args.paging.now.plan.now c.push.new.self = search rules in
     let ranks : c.push.new.self.ranks ≡ c.loop-leaf.page.waiting.ranks ++ (c.args.sets.now.first + c.in-Some.leaf.rank) ∷ [] = search rules in
     let sets : c.push.new.self.sets ≡ c.loop-leaf.page.waiting.sets ++ (record { head = c.args.sets.now.head; slots = c.in-Some.leaf.slots }) ∷ [] = search rules in
-    let P : List Image → Type 0 = λ attached. Wait (told_all attached) c.args.paging.now.plan.now c.loop-leaf.page.tested ((c.args.sets.now.first + c.in-Some.leaf.rank) + 1) (lines_of c.push.new.self.ranks c.push.new.self.sets) in
+    let P : List Image → Type 0 = λ attached. Wait (told_all attached) c.args.paging.now.plan.now c.loop-leaf.page.tested ((c.args.sets.now.first + c.in-Some.leaf.rank) + 1) (ranked_sets c.push.new.self.ranks c.push.new.self.sets) in
     subst P (sym c.loop-leaf.invariant.stands.scans.spends.reads.attached) (waits_more (told_all (g.I.Images.seen c.args.images.now).attached) c.args.paging.now.plan.now c.args.paging.now.size (record { rank = c.args.sets.now.first + c.in-Some.leaf.rank; geo = record { head = c.args.sets.now.head; slots = c.in-Some.leaf.slots } }) c.loop-leaf.page c.push.new.self next.goes.stands next.is ranks sets)
 
 pub returns-clause-gathers : goal.returns-clause-gathers

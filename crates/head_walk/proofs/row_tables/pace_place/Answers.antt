@@ -1,4 +1,4 @@
-use Rattle.std.proofs.Common.{◌≡◌, ◌<◌, ◌+◌, ◌*◌, ℕ, List, length, arith, sym, ap, ◌∙◌}
+use Rattle.std.proofs.Common.{◌≡◌, ◌+◌, ◌*◌, ℕ, List, length, arith, sym, ap, ◌∙◌}
 use Rattle.std.specs.List.{slice_index}
 use Rattle.xor_tables.proofs.Paces.{place_below}
 use Rattle.prune_filters.specs.Paces.{pace_at, paces_of}

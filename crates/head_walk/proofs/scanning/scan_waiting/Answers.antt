@@ -4,7 +4,7 @@ use Rattle.outside.specs.Attached.{told_all}
 use Rattle.raid_params.specs.declared.types.Geometry.{Geometry}
 use Rattle.parity_scan.specs.Scan.{IsScannable}
 use Rattle.parity_scan.specs.Tallies.{AllTallies, BeginsAs}
-use Rattle.head_walk.specs.Walk.{lines_of}
+use Rattle.head_walk.specs.Walk.{ranked_sets}
 use Rattle.head_walk.proofs.Candidates.{all_begin, waiting_closed, written_known, written_told}
 use Rattle.head_walk.proofs.Judging.{all_few, all_scannable, waiting_read}
 use Rattle.head_walk.proofs.Known.{known_most}
@@ -16,12 +16,12 @@ use Rattle.search_plan.specs.Plans.{scope_of}
 pub scan_tallied-requires-clause-sets : goal.scan_tallied-requires-clause-sets
 scan_tallied-requires-clause-sets g c κs within =
     subst (λ (l : List Geometry). All (λ geo. IsScannable geo c.args.paging.now.plan.now.end (g.I.Images.seen c.args.images.now).attached) l) (sym c.as_slice.ensures)
-    (all_scannable (told_all (g.I.Images.seen c.args.images.now).attached) c.args.paging.now.plan.now (g.I.Images.seen c.args.images.now).attached c.args.page.now.waiting.ranks c.args.page.now.waiting.sets c.requires.can.is_plan c.requires.can.agrees c.requires.are.ranks (each_waits (told_all (g.I.Images.seen c.args.images.now).attached) c.args.paging.now.plan.now c.args.page.now.tested c.args.at (lines_of c.args.page.now.waiting.ranks c.args.page.now.waiting.sets) c.requires.wait))
+    (all_scannable (told_all (g.I.Images.seen c.args.images.now).attached) c.args.paging.now.plan.now (g.I.Images.seen c.args.images.now).attached c.args.page.now.waiting.ranks c.args.page.now.waiting.sets c.requires.can.is_plan c.requires.can.agrees c.requires.are.ranks (each_waits (told_all (g.I.Images.seen c.args.images.now).attached) c.args.paging.now.plan.now c.args.page.now.tested c.args.at (ranked_sets c.args.page.now.waiting.ranks c.args.page.now.waiting.sets) c.requires.wait))
 
 pub scan_tallied-requires-clause-begin : goal.scan_tallied-requires-clause-begin
 scan_tallied-requires-clause-begin g c κs within =
     subst (λ (l : List Geometry). AllTallies (BeginsAs (told_all (g.I.Images.seen c.args.images.now).attached) (scope_of c.args.paging.now.plan.now)) l c.deref_mut.result.now) (sym c.as_slice.ensures)
-    (all_begin (g.I.Images.seen c.args.images.now).attached c.args.paging.now.plan.now c.args.page.now.waiting c.deref_mut.result.now c.requires.can.is_plan c.requires.can.agrees (g.met.I.Images.tells_bytes c.args.images.now) c.requires.are c.deref_mut.ensures.value (each_waits (told_all (g.I.Images.seen c.args.images.now).attached) c.args.paging.now.plan.now c.args.page.now.tested c.args.at (lines_of c.args.page.now.waiting.ranks c.args.page.now.waiting.sets) c.requires.wait))
+    (all_begin (g.I.Images.seen c.args.images.now).attached c.args.paging.now.plan.now c.args.page.now.waiting c.deref_mut.result.now c.requires.can.is_plan c.requires.can.agrees (g.met.I.Images.tells_bytes c.args.images.now) c.requires.are c.deref_mut.ensures.value (each_waits (told_all (g.I.Images.seen c.args.images.now).attached) c.args.paging.now.plan.now c.args.page.now.tested c.args.at (ranked_sets c.args.page.now.waiting.ranks c.args.page.now.waiting.sets) c.requires.wait))
 
 pub returns-in_err-scan_tallied-clause-reads : goal.returns-in_err-scan_tallied-clause-reads
 returns-in_err-scan_tallied-clause-reads g c = waiting_read (g.I.Images.seen c.args.images.now) (g.I.Images.seen c.scan_tallied.new.images) c.args.paging.now.plan.now c.args.page.now.tested c.args.at c.args.page.now.waiting c.as_slice.result.now c.requires.can.agrees c.requires.are c.requires.wait c.as_slice.ensures c.scan_tallied.ensures.reads
@@ -33,7 +33,7 @@ pub add_passed-requires-clause-last : goal.add_passed-requires-clause-last
 add_passed-requires-clause-last g c = waiting_ranks (told_all (g.I.Images.seen c.args.images.now).attached) c.args.paging.now.plan.now c.args.page.now.tested c.args.at c.args.page.now.waiting.ranks c.args.page.now.waiting.sets c.requires.are.ranks c.ranges.at.fits c.requires.wait
 
 pub add_passed-requires-clause-slots : goal.add_passed-requires-clause-slots
-add_passed-requires-clause-slots g c = all_few (told_all (g.I.Images.seen c.args.images.now).attached) c.args.paging.now.plan.now c.args.page.now.waiting.ranks c.args.page.now.waiting.sets c.requires.can.is_plan c.requires.are.ranks (each_waits (told_all (g.I.Images.seen c.args.images.now).attached) c.args.paging.now.plan.now c.args.page.now.tested c.args.at (lines_of c.args.page.now.waiting.ranks c.args.page.now.waiting.sets) c.requires.wait)
+add_passed-requires-clause-slots g c = all_few (told_all (g.I.Images.seen c.args.images.now).attached) c.args.paging.now.plan.now c.args.page.now.waiting.ranks c.args.page.now.waiting.sets c.requires.can.is_plan c.requires.are.ranks (each_waits (told_all (g.I.Images.seen c.args.images.now).attached) c.args.paging.now.plan.now c.args.page.now.tested c.args.at (ranked_sets c.args.page.now.waiting.ranks c.args.page.now.waiting.sets) c.requires.wait)
 
 pub returns-in_err-full-clause-reads : goal.returns-in_err-full-clause-reads
 returns-in_err-full-clause-reads g c = waiting_read (g.I.Images.seen c.args.images.now) (g.I.Images.seen c.scan_tallied.new.images) c.args.paging.now.plan.now c.args.page.now.tested c.args.at c.args.page.now.waiting c.as_slice.result.now c.requires.can.agrees c.requires.are c.requires.wait c.as_slice.ensures c.scan_tallied.ensures.reads
@@ -46,7 +46,7 @@ returns-then-is_none-clause-gathers g c =
     let ok : c.add_passed.result ≡ Ok c.in_ok-full.full = search rules in
     let adds = at_ok _ c.add_passed.result c.in_ok-full.full ok c.add_passed.ensures in
     let empty : c.in_ok-full.full ≡ None = search rules in
-    gathers_none (told_all (g.I.Images.seen c.args.images.now).attached) c.args.paging.now.plan.now c.args.paging.now.size c.args.at c.args.page.now (record { lines = c.add_passed.new.lines; tested = c.args.at; waiting = c.none.result }) c.add_passed.new.lines (lines_of c.args.page.now.waiting.ranks c.args.page.now.waiting.sets) c.in_ok-full.full
+    gathers_none (told_all (g.I.Images.seen c.args.images.now).attached) c.args.paging.now.plan.now c.args.paging.now.size c.args.at c.args.page.now (record { lines = c.add_passed.new.lines; tested = c.args.at; waiting = c.none.result }) c.add_passed.new.lines (ranked_sets c.args.page.now.waiting.ranks c.args.page.now.waiting.sets) c.in_ok-full.full
     empty refl refl (record { ranks = c.none.ensures.ranks; sets = c.none.ensures.sets; tallies = c.none.ensures.tallies; known = c.none.ensures.known }) c.requires.wait
     (waiting_added (told_all (g.I.Images.seen c.args.images.now).attached) c.args.paging.now.plan.now c.args.page.now.tested c.args.at c.args.paging.now.size c.args.page.now.waiting _ c.args.page.now.lines c.add_passed.new.lines c.in_ok-full.full refl refl c.requires.wait (written_told (told_all (g.I.Images.seen c.args.images.now).attached) c.args.paging.now.plan.now c.args.page.now.waiting.tallies.items c.scan_tallied.new.tallies c.as_slice.result.now c.args.page.now.waiting.sets c.args.page.now.waiting.tallies.len (let long = c.scan_tallied.ensures.long in let same = ap length c.as_slice.ensures in let room = c.deref_mut.ensures.len in let items = ap length c.deref_mut.ensures.value in omega arith) c.as_slice.ensures c.in_ok-scan_tallied.ensures.told) adds)
 

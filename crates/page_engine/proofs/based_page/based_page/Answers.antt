@@ -5,7 +5,7 @@ use Rattle.page_loop.proofs.Appended.{whole_page}
 use Rattle.page_loop.specs.Parts.{Whole}
 use Rattle.search_terms.specs.Page.{stop_of, IsPage}
 use Rattle.wide_product.specs.Sets.{wide_passes_at, wide_total}
-use Rattle.page_engine.specs.Lines.{ranks_of}
+use Rattle.common_pages.specs.Pages.{ranks_of}
 use Rattle.page_engine.specs.Reads.{based_reads}
 use Rattle.page_engine.proofs.PageByPage.{gives_cut}
 use Rattle.page_engine.proofs.RangeReads.{wide_based}

@@ -5,10 +5,12 @@ use Rattle.outside.specs.Seen.{Image, OnlyReads}
 use Rattle.search_terms.specs.Page.{stop_of}
 use Rattle.wide_product.specs.Sets.{wide_total}
 use Rattle.common_pages.specs.declared.page_parts.PageFault.TheVariants.{Memory}
-use Rattle.page_engine.specs.Pages.{ArePagesFrom, CanPageWide}
-use Rattle.page_engine.specs.declared.page_parts.ListPage.{ListPage}
+use Rattle.common_pages.specs.Pages.{ArePagesFrom}
+use Rattle.common_pages.specs.declared.page_parts.ListPage.{ListPage}
+use Rattle.common_pages.proofs.PageByPage.{all_made, below_total, ends_of, ends_with, Going, none_made, one_more, the_last}
+use Rattle.page_engine.specs.Pages.{CanPageWide}
 use Rattle.page_engine.specs.Reads.{based_to}
-use Rattle.page_engine.proofs.PageByPage.{all_made, below_total, comes_on, ends_of, ends_with, gives_fault, gives_made, gives_short, Going, none_made, one_more, reads_first, reads_more, the_last, wide_ended, wide_made, wide_more}
+use Rattle.page_engine.proofs.PageByPage.{comes_on, gives_fault, gives_made, gives_short, reads_first, reads_more, wide_ended, wide_made, wide_more}
 use Rattle.page_engine.proofs.paging.based_pages.Goals as goal
 
 pub loop-init : goal.loop-init

@@ -1,7 +1,7 @@
 use Rattle.std.proofs.Common.{◌≡◌, ◌≤◌, length}
 use Rattle.outside.specs.Attached.{told_all}
 use Rattle.outside.specs.Seen.{OnlyReads}
-use Rattle.page_engine.proofs.PageByPage.{Begun, ends_of, Going}
+use Rattle.common_pages.proofs.PageByPage.{Begun, ends_of, Going}
 use Rattle.page_engine.specs.Reads.{based_to}
 use Rattle.page_engine.proofs.paging.based_pages.Given as goal
 

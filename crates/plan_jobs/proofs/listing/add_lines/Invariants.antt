@@ -1,6 +1,6 @@
 use Rattle.std.proofs.Common.{◌≡◌, ◌++◌, take}
 use Rattle.std.specs.List.{flat_map}
-use Rattle.page_engine.specs.declared.lines.Line.{Line}
+use Rattle.head_walk.specs.declared.parts.Line.{Line}
 use Rattle.wide_product.specs.Sets.{based}
 use Rattle.plan_jobs.specs.Listing.{line_in}
 use Rattle.plan_jobs.proofs.listing.add_lines.Given as goal

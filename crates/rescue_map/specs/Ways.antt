@@ -18,6 +18,12 @@ sectors_of (Known home count) = count
 sectors_of (Found home row) = 1
 sectors_of Lost = 1
 
+-- how many of them are to be found by the known cells of their row
+abbrev pub unsolved_of : Way → ℕ
+unsolved_of (Known home count) = 0
+unsolved_of (Found home row) = 1
+unsolved_of Lost = 0
+
 -- n volume sectors from v on lie beside each other on one member, and their homes are known
 pub record IsKnownRun (sections : List Section) (set : Wide) (v n : ℕ) (home : Home) : Type 0 where
   pub lies : LiesAt set.geo.head home.slot home.sector v

@@ -1,8 +1,9 @@
 //! Sectors of the volume, by what was read for them.
-ghost use Rattle.std.specs.Prelude.{◌≡◌, ◌/◌, length};
+ghost use Rattle.std.specs.Prelude.{◌≡◌, ◌*◌, ◌/◌, length, nat_le};
 ghost use Rattle.rescue_map.specs.Damaged.{IsMendable};
 ghost use Rattle.rescue_map.specs.Salvaged.{FillsPiece, IsPiece};
 ghost use Rattle.rescue_map.specs.Ways.{sectors_of, AreFinished, IsPart, IsWay};
+ghost use Rattle.rescue_map.specs.declared.filling.TheConstants.{MANY as MANY_CELLS};
 
 use crate::damaged::Damage;
 use crate::ways::{Step, Way, way_of};
@@ -122,6 +123,8 @@ pub(crate) fn fill_block<R: Threads + Sync, G: Gate + Sync>(
 }
 
 /// Whether it is worth the cost of threads to find so many sectors by their rows.
-pub(crate) fn are_many(damage: &Damage, found: usize) -> bool {
+pub(crate) fn are_many(damage: &Damage, found: usize) -> bool
+    ensures { result ≡ nat_le MANY_CELLS (found * length damage.now.set.now.geo.slots.items) }
+{
     MANY <= found.saturating_mul(damage.set.geo.slots.len())
 }

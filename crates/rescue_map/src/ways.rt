@@ -2,7 +2,7 @@
 ghost use Rattle.std.specs.Prelude.{◌≡◌, ◌+◌, ◌<◌, ◌≤◌};
 ghost use Rattle.raid_params.specs.Size.{volume_sectors as volume_sectors_of};
 ghost use Rattle.rescue_map.specs.Damaged.{IsDamaged};
-ghost use Rattle.rescue_map.specs.Ways.{sectors_of, IsWay};
+ghost use Rattle.rescue_map.specs.Ways.{sectors_of, unsolved_of, IsWay};
 
 use crate::damaged::{Damage, damaged, is_beyond, known_front, known_slot};
 use address_map::{Home, locate};
@@ -33,7 +33,8 @@ impl Way {
 
     /// How many of them are to be found by the known cells of their row.
     pub(crate) fn unsolved(&self) -> usize
-        ensures { result ≤ 1 }
+        ensures found { result ≡ unsolved_of self.now }
+        ensures one { result ≤ 1 }
     {
         match self {
             Way::Found(_, _) => 1,

@@ -10,7 +10,7 @@ ghost use Rattle.rescue_map.specs.Ways.{sectors_of, IsPart, IsWay};
 use crate::damaged::{Damage, are_all_good};
 use crate::filling::fill_step;
 use crate::reading::read_step;
-use crate::ways::{Step, Way, way_of};
+use crate::ways::{Way, way_of};
 use address_map::locate;
 use outside::{Failed, Images, SECTOR};
 
@@ -74,21 +74,23 @@ pub fn has_lost(damage: &Damage, first: u64, count: u64) -> bool
 /// Reads sectors of the volume that come about in one way into `to`. `row` is room for a sector of each member.
 fn read_finished<I: Images>(
     images: &mut I,
-    step: &Step,
+    damage: &Damage,
+    first: u64,
+    way: &Way,
     row: &mut [u8],
     to: &mut [u8],
 ) -> Result<(), Failed>
-    requires set { IsReadable step.now.damage.set.now step.now.damage.end (I.seen images.old).attached }
-    requires way { IsWay step.now.damage.rescue.now step.now.damage.set.now step.now.first step.now.way }
-    requires part { IsPart step.now.damage.set.now step.now.damage.end step.now.first (sectors_of step.now.way) row.old to.old }
-    requires some { 0 < sectors_of step.now.way }
+    requires set { IsReadable damage.now.set.now damage.now.end (I.seen images.old).attached }
+    requires way { IsWay damage.now.rescue.now damage.now.set.now first way.now }
+    requires part { IsPart damage.now.set.now damage.now.end first (sectors_of way.now) row.old to.old }
+    requires some { 0 < sectors_of way.now }
     ensures told { OnOk result (IfSome (told_all (I.seen images.old).attached)
-        (λ bytes. AreSalvaged bytes step.now.damage.rescue.now step.now.damage.set.now step.now.first (sectors_of step.now.way) to.new)) }
+        (λ bytes. AreSalvaged bytes damage.now.rescue.now damage.now.set.now first (sectors_of way.now) to.new)) }
     ensures lengths { KeepLengths to.old to.new row.old row.new }
-    ensures reads { ReadsUpTo (I.seen images.old) (I.seen images.new) (reads_for_all step.now.damage.rescue.now step.now.damage.set.now step.now.first (sectors_of step.now.way)) result }
+    ensures reads { ReadsUpTo (I.seen images.old) (I.seen images.new) (reads_for_all damage.now.rescue.now damage.now.set.now first (sectors_of way.now)) result }
 {
-    read_step(images, step, row, to)?;
-    fill_step(step, row, to);
+    read_step(images, damage, first, way, row, to)?;
+    fill_step(damage, first, way, row, to);
     Ok(())
 }
 
@@ -118,12 +120,8 @@ pub(crate) fn read_each<I: Images>(
         let way = way_of(damage, sector, (count - j) as u64);
         let next = j + way.count() as usize;
         found += way.unsolved();
-        let step = Step {
-            damage: *damage,
-            first: sector,
-            way,
-        };
-        read_finished(images, &step, row, &mut to[SECTOR * j..SECTOR * next])?;
+        let part = &mut to[SECTOR * j..SECTOR * next];
+        read_finished(images, damage, sector, &way, row, part)?;
         j = next;
     }
     Ok(found)

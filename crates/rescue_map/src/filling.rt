@@ -6,7 +6,7 @@ ghost use Rattle.rescue_map.specs.Ways.{sectors_of, AreFinished, IsPart, IsWay};
 ghost use Rattle.rescue_map.specs.declared.filling.TheConstants.{MANY as MANY_CELLS};
 
 use crate::damaged::Damage;
-use crate::ways::{Step, Way, way_of};
+use crate::ways::{Way, way_of};
 use gates::{Gate, OpenGate};
 use outside::SECTOR;
 use pq_parity::solve;
@@ -33,14 +33,14 @@ pub(crate) struct Threading<'a, R, G> {
 
 /// Finishes sectors of the volume, `to`: they stay where they were read themselves, one is found by `row`, a sector of each
 /// member, where its home is not known, and is zeros where it is lost.
-pub(crate) fn fill_step(step: &Step, row: &[u8], to: &mut [u8])
-    requires set { IsMendable step.now.damage.set.now step.now.damage.end }
-    requires way { IsWay step.now.damage.rescue.now step.now.damage.set.now step.now.first step.now.way }
-    requires part { IsPart step.now.damage.set.now step.now.damage.end step.now.first (sectors_of step.now.way) row.now to.old }
+pub(crate) fn fill_step(damage: &Damage, first: u64, way: &Way, row: &[u8], to: &mut [u8])
+    requires set { IsMendable damage.now.set.now damage.now.end }
+    requires way { IsWay damage.now.rescue.now damage.now.set.now first way.now }
+    requires part { IsPart damage.now.set.now damage.now.end first (sectors_of way.now) row.now to.old }
     ensures long { length to.new ≡ length to.old }
-    ensures finished { AreFinished step.now.damage.rescue.now step.now.damage.set.now step.now.first (sectors_of step.now.way) row.now to.old to.new }
+    ensures finished { AreFinished damage.now.rescue.now damage.now.set.now first (sectors_of way.now) row.now to.old to.new }
 {
-    match &step.way {
+    match way {
         Way::Known(_, _) => {}
         Way::Found(home, cells) => {
             solve(&row_cells(cells, home.row), row, home.slot as usize, to);
@@ -63,14 +63,9 @@ pub(crate) fn fill_piece(damage: &Damage, first: u64, start: usize, piece: &mut 
         let sector = first + (start + j) as u64;
         let way = way_of(damage, sector, (count - j) as u64);
         let next = j + way.count() as usize;
-        let step = Step {
-            damage: *damage,
-            first: sector,
-            way,
-        };
         let at = stride * (start + j);
         let to = &mut piece[SECTOR * j..SECTOR * next];
-        fill_step(&step, &rows[at..at + stride], to);
+        fill_step(damage, sector, &way, &rows[at..at + stride], to);
         j = next;
     }
 }

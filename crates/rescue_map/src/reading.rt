@@ -9,7 +9,7 @@ ghost use Rattle.rescue_map.specs.Salvaged.{reads_for_all, HasRoom, HoldCells, I
 ghost use Rattle.rescue_map.specs.Ways.{sectors_of, AreFound, IsPart, IsWay};
 
 use crate::damaged::Damage;
-use crate::ways::{Step, Way, way_of};
+use crate::ways::{Way, way_of};
 use member_regions::read_member;
 use outside::{Failed, Images, SECTOR};
 use raid_params::Geometry;
@@ -63,21 +63,23 @@ fn read_row<I: Images>(
 /// where one is found by these, and nothing where it is lost.
 pub(crate) fn read_step<I: Images>(
     images: &mut I,
-    step: &Step,
+    damage: &Damage,
+    first: u64,
+    way: &Way,
     row: &mut [u8],
     to: &mut [u8],
 ) -> Result<(), Failed>
-    requires set { IsReadable step.now.damage.set.now step.now.damage.end (I.seen images.old).attached }
-    requires way { IsWay step.now.damage.rescue.now step.now.damage.set.now step.now.first step.now.way }
-    requires part { IsPart step.now.damage.set.now step.now.damage.end step.now.first (sectors_of step.now.way) row.old to.old }
-    requires some { 0 < sectors_of step.now.way }
+    requires set { IsReadable damage.now.set.now damage.now.end (I.seen images.old).attached }
+    requires way { IsWay damage.now.rescue.now damage.now.set.now first way.now }
+    requires part { IsPart damage.now.set.now damage.now.end first (sectors_of way.now) row.old to.old }
+    requires some { 0 < sectors_of way.now }
     ensures told { OnOk result (IfSome (told_all (I.seen images.old).attached)
-        (λ bytes. AreFound bytes step.now.damage.rescue.now step.now.damage.set.now step.now.first (sectors_of step.now.way) row.new to.new)) }
+        (λ bytes. AreFound bytes damage.now.rescue.now damage.now.set.now first (sectors_of way.now) row.new to.new)) }
     ensures lengths { KeepLengths to.old to.new row.old row.new }
-    ensures reads { ReadsUpTo (I.seen images.old) (I.seen images.new) (reads_for_all step.now.damage.rescue.now step.now.damage.set.now step.now.first (sectors_of step.now.way)) result }
+    ensures reads { ReadsUpTo (I.seen images.old) (I.seen images.new) (reads_for_all damage.now.rescue.now damage.now.set.now first (sectors_of way.now)) result }
 {
-    let geo = &step.damage.set.geo;
-    match &step.way {
+    let geo = &damage.set.geo;
+    match way {
         Way::Known(home, _) => {
             let held = geo.slots[home.slot as usize];
             read_member(images, held, geo.head.offset, home.sector, to)
@@ -112,14 +114,9 @@ pub(crate) fn read_block<I: Images>(
         let way = way_of(damage, sector, (count - j) as u64);
         let next = j + way.count() as usize;
         found += way.unsolved();
-        let step = Step {
-            damage: *damage,
-            first: sector,
-            way,
-        };
         let row = &mut rows[stride * j..stride * j + stride];
         let to = &mut block[SECTOR * j..SECTOR * next];
-        read_step(images, &step, row, to)?;
+        read_step(images, damage, sector, &way, row, to)?;
         j = next;
     }
     Ok(found)

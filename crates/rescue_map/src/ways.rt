@@ -43,17 +43,6 @@ impl Way {
     }
 }
 
-/// The next sectors of a volume that come about in one way.
-#[derive(Drop)]
-pub struct Step<'a> {
-    /// The array.
-    pub damage: Damage<'a>,
-    /// The first of them.
-    pub first: u64,
-    /// How they come about.
-    pub way: Way,
-}
-
 /// How the volume sectors from number `sector` on come about, `most` at most. That sectors are known is found by bisection.
 pub(crate) fn way_of(damage: &Damage, sector: u64, most: u64) -> Way
     requires set { IsDamaged damage.now.set.now damage.now.end }

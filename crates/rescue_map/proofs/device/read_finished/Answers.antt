@@ -15,11 +15,10 @@ fill_step-requires-clause-part g c = record {
 
 pub returns-clause-told : goal.returns-clause-told
 returns-clause-told g c =
-    let step = c.args.step.now in
-    let damage = step.damage in
-    let n = sectors_of step.way in
+    let damage = c.args.damage.now in
+    let n = sectors_of c.args.way.now in
     if_told (told_all (g.I.Images.seen c.args.images.now).attached)
-    (λ bytes. AreFound bytes damage.rescue.now damage.set.now step.first n c.read_step.new.row c.read_step.new.to)
-    (λ bytes. AreSalvaged bytes damage.rescue.now damage.set.now step.first n c.fill_step.new.to)
-    (λ bytes found. found_finished bytes damage.rescue.now damage.set.now step.first n c.read_step.new.row c.read_step.new.to c.fill_step.new.to found c.fill_step.ensures.finished)
+    (λ bytes. AreFound bytes damage.rescue.now damage.set.now c.args.first n c.read_step.new.row c.read_step.new.to)
+    (λ bytes. AreSalvaged bytes damage.rescue.now damage.set.now c.args.first n c.fill_step.new.to)
+    (λ bytes found. found_finished bytes damage.rescue.now damage.set.now c.args.first n c.read_step.new.row c.read_step.new.to c.fill_step.new.to found c.fill_step.ensures.finished)
     c.in_ok-read_step.ensures.told

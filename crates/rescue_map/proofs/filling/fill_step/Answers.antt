@@ -18,20 +18,18 @@ use Rattle.rescue_map.proofs.filling.fill_step.Goals as goal
 
 pub returns-in-Known-clause-finished : goal.returns-in-Known-clause-finished
 returns-in-Known-clause-finished c =
-    let step = c.args.step.now in
-    let damage = step.damage in
-    let run = subst (IsWay damage.rescue.now damage.set.now step.first) c.in-Known.is c.requires.way in
-    subst (λ (n : ℕ). AreFinished damage.rescue.now damage.set.now step.first n c.args.row.now c.args.to.now c.args.to.now) (sym (ap sectors_of c.in-Known.is))
-    (known_finished damage.rescue.now damage.set.now step.first c.in-Known.field-1 c.args.row.now c.args.to.now run.known)
+    let damage = c.args.damage.now in
+    let run = subst (IsWay damage.rescue.now damage.set.now c.args.first) c.in-Known.is c.requires.way in
+    subst (λ (n : ℕ). AreFinished damage.rescue.now damage.set.now c.args.first n c.args.row.now c.args.to.now c.args.to.now) (sym (ap sectors_of c.in-Known.is))
+    (known_finished damage.rescue.now damage.set.now c.args.first c.in-Known.field-1 c.args.row.now c.args.to.now run.known)
 
 pub row_cells-requires : goal.row_cells-requires
 row_cells-requires c =
-    let step = c.args.step.now in
-    let damage = step.damage in
+    let damage = c.args.damage.now in
     let set = damage.set.now in
     let home = c.in-Found.home in
     let row = c.in-Found.cells in
-    let found = subst (IsWay damage.rescue.now set step.first) c.in-Found.is c.requires.way in
+    let found = subst (IsWay damage.rescue.now set c.args.first) c.in-Found.is c.requires.way in
     record {
       head = subst (λ (h : Head). IsTrue (is_valid_head h)) (sym (row_head damage.rescue.now set home.sector row found.cells)) (testable_head set.geo c.requires.set.shape);
       slots =
@@ -45,21 +43,20 @@ none_of (Some i) is = absurd (cc)
 
 pub solve-requires : goal.solve-requires
 solve-requires c =
-    let step = c.args.step.now in
-    let damage = step.damage in
+    let damage = c.args.damage.now in
     let set = damage.set.now in
     let home = c.in-Found.home in
     let row = c.in-Found.cells in
-    let found = subst (IsWay damage.rescue.now set step.first) c.in-Found.is c.requires.way in
-    let few : empties row.slots.items ≤ redundancy row.head.level = few_of (redundancy row.head.level) (empties row.slots.items) (beyond_home damage.rescue.now set step.first home.slot home.sector row _ found.cells found.lies refl ∙ found.few) in
+    let found = subst (IsWay damage.rescue.now set c.args.first) c.in-Found.is c.requires.way in
+    let few : empties row.slots.items ≤ redundancy row.head.level = few_of (redundancy row.head.level) (empties row.slots.items) (beyond_home damage.rescue.now set c.args.first home.slot home.sector row _ found.cells found.lies refl ∙ found.few) in
     let level = row_level damage.rescue.now set home.sector row found.cells in
     let is = c.deref.ensures.0 ∙ c.row_cells.ensures in
     let cells = row_length row home.row c.deref.result.now is in
     let slots = row_slots damage.rescue.now set home.sector row found.cells in
     let members = c.requires.part.members in
-    let inside = home_in damage.rescue.now set home.slot home.sector step.first row (testable_head set.geo c.requires.set.shape) (sym (testable_slots set.geo c.requires.set.shape)) found.lies found.cells in
-    let none = unknown_slot damage.rescue.now set step.first home.slot home.sector row found.cells found.lies found.unknown in
-    let count : sectors_of step.way ≡ 1 = ap sectors_of c.in-Found.is in
+    let inside = home_in damage.rescue.now set home.slot home.sector c.args.first row (testable_head set.geo c.requires.set.shape) (sym (testable_slots set.geo c.requires.set.shape)) found.lies found.cells in
+    let none = unknown_slot damage.rescue.now set c.args.first home.slot home.sector row found.cells found.lies found.unknown in
+    let count : sectors_of c.args.way.now ≡ 1 = ap sectors_of c.in-Found.is in
     let long = c.requires.part.long in
     record {
       cells =
@@ -73,37 +70,35 @@ solve-requires c =
 
 pub returns-in-Found-clause-long : goal.returns-in-Found-clause-long
 returns-in-Found-clause-long c =
-    let count : sectors_of c.args.step.now.way ≡ 1 = ap sectors_of c.in-Found.is in
+    let count : sectors_of c.args.way.now ≡ 1 = ap sectors_of c.in-Found.is in
     let long = c.requires.part.long in
     let new = c.solve.ensures.length in
     omega arith
 
 pub returns-in-Found-clause-finished : goal.returns-in-Found-clause-finished
 returns-in-Found-clause-finished c =
-    let step = c.args.step.now in
-    let damage = step.damage in
+    let damage = c.args.damage.now in
     let set = damage.set.now in
     let home = c.in-Found.home in
     let row = c.in-Found.cells in
-    let found = subst (IsWay damage.rescue.now set step.first) c.in-Found.is c.requires.way in
+    let found = subst (IsWay damage.rescue.now set c.args.first) c.in-Found.is c.requires.way in
     let is = c.deref.ensures.0 ∙ c.row_cells.ensures in
     let cells = row_length row home.row c.deref.result.now is in
     let slots = row_slots damage.rescue.now set home.sector row found.cells in
-    subst (λ (n : ℕ). AreFinished damage.rescue.now set step.first n c.args.row.now c.args.to.now c.solve.new.to) (sym (ap sectors_of c.in-Found.is))
-    (first_finished damage.rescue.now set step.first c.args.row.now c.args.to.now c.solve.new.to
-    (λ x inside. solved_fills damage.rescue.now set step.first home.slot home.sector home.row (length set.geo.slots.items) (get_or c.args.to.now x 0) (get_or c.solve.new.to x 0) x c.deref.result.now c.args.row.now row
+    subst (λ (n : ℕ). AreFinished damage.rescue.now set c.args.first n c.args.row.now c.args.to.now c.solve.new.to) (sym (ap sectors_of c.in-Found.is))
+    (first_finished damage.rescue.now set c.args.first c.args.row.now c.args.to.now c.solve.new.to
+    (λ x inside. solved_fills damage.rescue.now set c.args.first home.slot home.sector home.row (length set.geo.slots.items) (get_or c.args.to.now x 0) (get_or c.solve.new.to x 0) x c.deref.result.now c.args.row.now row
     found.cells found.lies found.at is (cells ∙ slots) found.unknown found.few (c.solve.ensures.lost x inside)))
 
 pub returns-in-Lost-clause-finished : goal.returns-in-Lost-clause-finished
 returns-in-Lost-clause-finished c =
-    let step = c.args.step.now in
-    let damage = step.damage in
+    let damage = c.args.damage.now in
     let set = damage.set.now in
-    let lost = subst (IsWay damage.rescue.now set step.first) c.in-Lost.is c.requires.way in
-    let count : sectors_of step.way ≡ 1 = ap sectors_of c.in-Lost.is in
+    let lost = subst (IsWay damage.rescue.now set c.args.first) c.in-Lost.is c.requires.way in
+    let count : sectors_of c.args.way.now ≡ 1 = ap sectors_of c.in-Lost.is in
     let long = c.requires.part.long in
-    subst (λ (n : ℕ). AreFinished damage.rescue.now set step.first n c.args.row.now c.args.to.now c.fill.new.self) (sym count)
-    (first_finished damage.rescue.now set step.first c.args.row.now c.args.to.now c.fill.new.self
+    subst (λ (n : ℕ). AreFinished damage.rescue.now set c.args.first n c.args.row.now c.args.to.now c.fill.new.self) (sym count)
+    (first_finished damage.rescue.now set c.args.first c.args.row.now c.args.to.now c.fill.new.self
     (λ x inside.
     let zero : get_or c.fill.new.self x 0 ≡ 0 = search rules in
-    zero ∙ sym (filled_lost damage.rescue.now set step.first (get_or c.args.to.now x 0) (column_of (length set.geo.slots.items) c.args.row.now x) lost)))
+    zero ∙ sym (filled_lost damage.rescue.now set c.args.first (get_or c.args.to.now x 0) (column_of (length set.geo.slots.items) c.args.row.now x) lost)))

@@ -57,10 +57,6 @@ later_known sections set slot sector v j held lies inside below here some known 
     slot_at sections set (sector + j) slot below ∙ ap (known_slot sections set (sector + j)) (sym here) ∙ known in
     known_home sections set (v + j) slot (sector + j) (damaged sections set (sector + j)) refl (later_lies set.geo.head slot sector v j lies inside) (ap is_some there ∙ some)
 
-none_known : (o : Option ℕ) → is_none o ≡ false → o ≡ None → is_some o ≡ true
-none_known None known is = absurd (cc)
-none_known (Some i) known is = refl
-
 some_of : (o : Option ℕ) → is_none o ≡ false → is_some o ≡ true
 some_of None known = absurd (cc)
 some_of (Some i) known = refl

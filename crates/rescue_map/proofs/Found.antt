@@ -1,9 +1,10 @@
 -- What is found by what was read.
 use Rattle.std.proofs.Common.{ℕ, inl, inr, ◌≡◌, ◌+◌, ◌*◌, ◌/◌, ◌%◌, ◌<◌, ◌≤◌, ◌&&◌, IsTrue, Bool, true, false, cond, nat_lt, List, length, get_or, map, replicate, refl, sym, ap, ◌∙◌, subst, arith, Option, Some, None, IfSome, OnOk, Result, Ok, Err}
 use Rattle.std.specs.Option.{is_none, is_some}
-use Rattle.std.proofs.Common.{take, drop, All, IsSomeAnd, slice_get}
+use Rattle.std.proofs.Common.{take, drop, All}
 use Rattle.outside.specs.Seen.{Image, OnlyReads, Seen}
 use Rattle.member_regions.specs.Members.{held, Reaches}
+use Rattle.member_regions.proofs.Sets.{reaches_less}
 use Rattle.std.proofs.lemmas.List.{get_or-drop, get_or-map, get_or-replicate, get_or-take, length-map}
 use Rattle.std.proofs.lemmas.List.FromFn.{get_or-map-range_with_len, length-map-range_with_len}
 use Rattle.std.proofs.lemmas.Grind.{same_number_lists}
@@ -25,6 +26,7 @@ use Rattle.raid_terms.specs.Cells.{row_cells}
 use Rattle.raid_terms.specs.Parity.{column_of, member_byte, member_column}
 use Rattle.raid_terms.specs.Solving.{lost_byte}
 use Rattle.raid_terms.specs.Volume.{byte_in, member_sector, volume_sector}
+use Rattle.virtual_volume.proofs.Blocks.{sector_long}
 use Rattle.rescue_map.specs.Damaged.{damaged, damaged_at, is_beyond, is_lost, is_unknown}
 use Rattle.rescue_map.specs.Salvaged.{column_at, filled_byte, reads_for, salvaged_sector, HoldCells}
 use Rattle.rescue_map.proofs.Rows.{empties_home, held_home, row_head, row_level, row_slots, row_so}
@@ -112,10 +114,6 @@ filled_solved sections set v byte column gone few =
 
 -- ---- what it is
 
-pub sector_long : (images : List (List ℕ)) (geo : Geometry) (slot t : ℕ) → length (member_sector images geo slot t) ≡ 512
-unfolding member_sector
-sector_long images geo slot t = length-map-range_with_len (λ x. byte_in images geo t slot x (get_or geo.slots.items slot None)) 0 512
-
 either_long : (b : Bool) (xs : List ℕ) → length xs ≡ 512 → length (cond b (replicate 512 0) xs) ≡ 512
 either_long true xs long = refl
 either_long false xs long = long
@@ -131,7 +129,7 @@ unfolding salvaged_sector
 salvaged_lost images sections set v x lost inside =
     ap (λ (b : Bool). get_or (cond b (replicate 512 0) (volume_sector images (damaged_at sections set v) v)) x 0) lost ∙ get_or-replicate 512 x 0 0 inside
 
-at_head : (sections : List Section) (set : Wide) (t : ℕ) → (damaged sections set t).head ≡ set.geo.head
+pub at_head : (sections : List Section) (set : Wide) (t : ℕ) → (damaged sections set t).head ≡ set.geo.head
 unfolding damaged
 at_head sections set t = refl
 
@@ -274,16 +272,6 @@ reads_solved old new sections set v slot sector n row is lies many gone few read
     ∙ ap (λ (b : Bool). cond b (held (damaged_at sections set v).slots.items) 1) gone in
     subst (λ (n : ℕ). OnlyReads old new n) (many ∙ ap (λ (g : Geometry). held g.slots.items) same ∙ sym all) reads
 
-nearer : (attached : List Image) (n m : ℕ) (slot : Option ℕ) → m ≤ n → Reaches attached n slot → Reaches attached m slot
-nearer attached n m None le far = tt
-nearer attached n m (Some i) le far = longer (slice_get attached i) far
-  where
-    longer : (image : Option Image) → IsSomeAnd image (λ a. n ≤ a.sectors) → IsSomeAnd image (λ a. m ≤ a.sectors)
-    longer None far = far
-    longer (Some image) far = omega arith
-
 -- the members of a row reach as far as those of the set
 pub row_reaches : (attached : List Image) (sections : List Section) (set : Wide) (t end m : ℕ) (row : Geometry) → row ≡ damaged sections set t → m ≤ end → All (Reaches attached end) set.geo.slots.items → All (Reaches attached m) row.slots.items
-row_reaches attached sections set t end m row is le all =
-    let far = row_so (Reaches attached end) sections set t row is tt all in
-    λ k d below. nearer attached end m (get_or row.slots.items k d) le (far k d below)
+row_reaches attached sections set t end m row is le all = reaches_less attached end m row.slots.items (row_so (Reaches attached end) sections set t row is tt all) le

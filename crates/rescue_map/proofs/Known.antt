@@ -26,12 +26,13 @@ or_right false b is either = either
 some_length : {A : Type 0} (xs : List A) → 0 < length xs → (length xs == 0) ≡ false
 some_length xs some = grind (arith, nat_tests)
 
-pub base_below : (set : Wide) (image : ℕ) → image < length set.bases.items → get_or set.bases.items image set.geo.head.offset ≤ set.geo.head.offset
-base_below set image lt =
+-- each base is at most the offset
+pub all_below : (set : Wide) (image d : ℕ) → image < length set.bases.items → get_or set.bases.items image d ≤ set.geo.head.offset
+all_below set image d lt =
     let bases = set.bases.items in
     let same = or_right (length bases == 0) (set.geo.head.offset == greatest_base bases) (some_length bases (omega arith)) set.is_greatest in
     let greatest : set.geo.head.offset ≡ greatest_base bases = grind (arith, nat_tests) in
-    let le = below 0 bases image set.geo.head.offset lt in
+    let le = below 0 bases image d lt in
     omega arith
 
 -- ---- good sectors
@@ -65,19 +66,13 @@ each p a (suc n) all w low high =
     here (suc w) zero low = inr (omega arith)
     here (suc w) (suc a) low = elim (here w a (omega arith)) [ inl is ↦ inl (ap suc is) | inr later ↦ inr (omega arith) ]
 
-to_true : (b : Bool) → IsTrue b → b ≡ true
-to_true b is = is
-
-from_true : (b : Bool) → b ≡ true → IsTrue b
-from_true b is = is
-
 good_in : (section : Option Section) (sector : ℕ) → IsGoodIn section sector → is_good_in section sector ≡ true
 good_in None sector good = refl
-good_in (Some section) sector good = every (is_read section.blocks) (sector * 512) 512 (λ byte low high. to_true (is_read section.blocks byte) (good byte low high))
+good_in (Some section) sector good = every (is_read section.blocks) (sector * 512) 512 good
 
 good_back : (section : Option Section) (sector : ℕ) → is_good_in section sector ≡ true → IsGoodIn section sector
 good_back None sector is = tt
-good_back (Some section) sector is = λ byte low high. from_true (is_read section.blocks byte) (each (is_read section.blocks) (sector * 512) 512 is byte low high)
+good_back (Some section) sector is = each (is_read section.blocks) (sector * 512) 512 is
 
 pub good_is : (sections : List Section) (image sector : ℕ) → IsGood sections image sector → is_good sections image sector ≡ true
 good_is sections image sector good = good_in (section_of sections image) sector good
@@ -100,12 +95,3 @@ and_not b section sector not then = of_test (is_good_in section sector) refl
 -- where the call says no, it is not good
 pub not_good_is : (sections : List Section) (image sector : ℕ) (b : Bool) → b ≡ false → (IsGood sections image sector → b ≡ true) → is_good sections image sector ≡ false
 not_good_is sections image sector b not then = and_not b (section_of sections image) sector not then
-
--- each base is at most the offset
-pub all_below : (set : Wide) (image d : ℕ) → image < length set.bases.items → get_or set.bases.items image d ≤ set.geo.head.offset
-all_below set image d lt =
-    let bases = set.bases.items in
-    let same = or_right (length bases == 0) (set.geo.head.offset == greatest_base bases) (some_length bases (omega arith)) set.is_greatest in
-    let greatest : set.geo.head.offset ≡ greatest_base bases = grind (arith, nat_tests) in
-    let le = below 0 bases image d lt in
-    omega arith

@@ -19,6 +19,7 @@ use Rattle.virtual_volume.proofs.Ranges.{flat_same}
 use Rattle.rescue_map.specs.Damaged.{damaged, damaged_at, image_sector, is_good, is_lost, known_slot}
 use Rattle.rescue_map.specs.Laws.{AgreeOnGood, GoodSectorsTell, UndamagedIsTheVolume}
 use Rattle.rescue_map.specs.Salvaged.{salvaged_sector, salvaged_sectors}
+use Rattle.rescue_map.proofs.Found.{at_head}
 use Rattle.rescue_map.proofs.Passed.{good_row}
 use Rattle.rescue_map.proofs.Rows.{known_is, unknown_is}
 use Rattle.rescue_text.specs.declared.section.Section.{Section}
@@ -83,14 +84,10 @@ row_agrees sections set end t slot one other agree inside =
     (slot_agrees (member_byte one set.geo.head.offset t x) (member_byte other set.geo.head.offset t x) (known_slot sections set t) refl (known_agrees sections set end t x one other agree inside (omega arith)) slots slot)
     (column_agrees (member_byte one set.geo.head.offset t x) (member_byte other set.geo.head.offset t x) (known_slot sections set t) (known_agrees sections set end t x one other agree inside (omega arith)) slots))
 
-same_head : (sections : List Section) (set : Wide) (t : ℕ) → (damaged sections set t).head ≡ set.geo.head
-unfolding damaged
-same_head sections set t = refl
-
 at_home : (images : List (List ℕ)) (sections : List Section) (set : Wide) (v : ℕ) →
     volume_sector images (damaged_at sections set v) v ≡ member_sector images (damaged sections set (home_sector set.geo.head v)) (home_slot set.geo.head v) (home_sector set.geo.head v)
 at_home images sections set v =
-    ap (λ (h : Head). member_sector images (damaged_at sections set v) (home_slot h v) (home_sector h v)) (same_head sections set (home_sector set.geo.head v))
+    ap (λ (h : Head). member_sector images (damaged_at sections set v) (home_slot h v) (home_sector h v)) (at_head sections set (home_sector set.geo.head v))
 
 sector_agrees : (sections : List Section) (set : Wide) (count end v : ℕ) (one other : List (List ℕ)) → wide_fault set count end ≡ None → AgreeOnGood sections set end one other → v < volume_sectors set.geo.head end →
     salvaged_sector one sections set v ≡ salvaged_sector other sections set v

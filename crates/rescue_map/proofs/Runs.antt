@@ -1,23 +1,18 @@
 -- Runs of lost sectors.
 use Rattle.std.proofs.Common.{ℕ, zero, suc, ◌≡◌, ◌+◌, ◌-◌, ◌<◌, ◌≤◌, ◌==◌, ◌⊎◌, inl, inr, Bool, true, false, ◌&&◌, ◌||◌, not, cond, List, [], ◌∷◌, ◌++◌, filter, count_by, append-nil, codes, decimal, IfSome, refl, sym, ap, ◌∙◌, subst, arith}
+use Rattle.std.proofs.lemmas.Bool.{cases_lt}
 use Rattle.std.proofs.lemmas.Bool.Decides.{nat_tests}
 use Rattle.std.proofs.lemmas.List.Elements.{filter-append}
 use Rattle.std.proofs.lemmas.Grind.{flat_map-append}
 use Rattle.std.proofs.lemmas.List.Sums.{sum_by-append, sum_by-cons}
 use Rattle.std.specs.List.{flat_map, range_with_len}
 use Rattle.std.specs.Option.{is_none}
-use Rattle.search_terms.proofs.Pages.{range-add}
+use Rattle.virtual_volume.proofs.Ranges.{range_split}
 use Rattle.std.specs.declared.option.Option.{Option}
 use Rattle.std.specs.declared.option.Option.TheVariants.{None, Some}
 use Rattle.rescue_map.specs.LostText.{begins_run, lines_before, run_length, run_line, AreLines, HasRuns}
 use Rattle.rescue_map.specs.declared.lost.Runs.{Runs}
 use Rattle.value_text.specs.Spelling.{line}
-
--- a range of the first numbers in two parts
-range_split : (n m : ℕ) → range_with_len 0 (n + m) ≡ range_with_len 0 n ++ range_with_len n m
-range_split n m =
-    let e : 0 + n ≡ n = omega arith in
-    subst (λ (k : ℕ). range_with_len 0 (n + m) ≡ range_with_len 0 n ++ range_with_len k m) e (range-add 0 n m)
 
 kept_none : (p : ℕ → Bool) (a : ℕ) (xs : List ℕ) → p a ≡ false → filter p (a ∷ xs) ≡ filter p xs
 kept_none p a xs is = ap (λ (b : Bool). cond b (a ∷ filter p xs) (filter p xs)) is
@@ -33,7 +28,7 @@ none_kept p a (suc n) none =
 
 more_lines : (lost : ℕ → Bool) (sectors v n : ℕ) → lines_before lost sectors (v + n) ≡ lines_before lost sectors v ++ flat_map (run_line lost sectors) (filter (begins_run lost) (range_with_len v n))
 more_lines lost sectors v n =
-    ap (λ (l : List ℕ). flat_map (run_line lost sectors) (filter (begins_run lost) l)) (range_split v n)
+    ap (λ (l : List ℕ). flat_map (run_line lost sectors) (filter (begins_run lost) l)) (range_split 0 v n (v + n) v refl (omega arith))
     ∙ ap (flat_map (run_line lost sectors)) (filter-append (begins_run lost) (range_with_len 0 v) (range_with_len v n))
     ∙ flat_map-append (run_line lost sectors) (filter (begins_run lost) (range_with_len 0 v)) (filter (begins_run lost) (range_with_len v n))
 
@@ -124,7 +119,7 @@ all_good lost a (suc n) none =
 
 more_good : (lost : ℕ → Bool) (v n : ℕ) → count_by (λ w. not (lost w)) (range_with_len 0 (v + n)) ≡ count_by (λ w. not (lost w)) (range_with_len 0 v) + count_by (λ w. not (lost w)) (range_with_len v n)
 more_good lost v n =
-    ap (count_by (λ w. not (lost w))) (range_split v n)
+    ap (count_by (λ w. not (lost w))) (range_split 0 v n (v + n) v refl (omega arith))
     ∙ sum_by-append (λ w. cond (not (lost w)) 1 0) (range_with_len 0 v) (range_with_len v n)
 
 -- how many of a longer range are not lost
@@ -152,20 +147,10 @@ good_few lost v = few 0 v
 
 -- ---- runs, sector by sector
 
--- of the sectors up to one more, the last is that one or is among those before
-last_or : (w at : ℕ) → w < at + 1 → (w ≡ at) ⊎ (w < at)
-last_or zero zero lt = inl refl
-last_or zero (suc at) lt = inr (omega arith)
-last_or (suc w) zero lt = absurd (omega arith)
-last_or (suc w) (suc at) lt = elim (last_or w at (omega arith)) [ inl is ↦ inl (ap suc is) | inr before ↦ inr (omega arith) ]
-
-only_one : (w at : ℕ) → at ≤ w → w < at + 1 → w ≡ at
-only_one w at low high = omega arith
-
 -- a lost sector begins a run
 pub first_lost : (lost : ℕ → Bool) (sectors at : ℕ) (text : List ℕ) → AreLines lost sectors at text None → lost at ≡ true → AreLines lost sectors (at + 1) text (Some at)
 first_lost lost sectors at text lines is =
-    (lines.0, omega arith, begins_here lost at is lines.1, λ w low high. subst (λ (k : ℕ). lost k ≡ true) (sym (only_one w at low high)) is)
+    (lines.0, omega arith, begins_here lost at is lines.1, λ w low high. let here : at ≡ w = omega arith in subst (λ (k : ℕ). lost k ≡ true) here is)
 
 -- or goes on with one
 pub next_lost : (lost : ℕ → Bool) (sectors at first : ℕ) (text : List ℕ) → AreLines lost sectors at text (Some first) → lost at ≡ true → AreLines lost sectors (at + 1) text (Some first)
@@ -173,9 +158,9 @@ next_lost lost sectors at first text lines is = (
   lines.0,
   omega (arith, lines.1),
   lines.2,
-  λ w low high. elim (last_or w at high) [
-    | inl last ↦ subst (λ (k : ℕ). lost k ≡ true) (sym last) is
-    | inr before ↦ lines.3 w low before
+  λ w low high. elim (cases_lt w at) [
+    | inl before ↦ lines.3 w low before
+    | inr last ↦ (let here : at ≡ w = omega arith in subst (λ (k : ℕ). lost k ≡ true) here is)
   ],
 )
 

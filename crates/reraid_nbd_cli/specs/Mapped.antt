@@ -30,8 +30,9 @@ use Rattle.run_ends.specs.declared.stop.Refusal.{Refusal}
 use Rattle.run_ends.specs.declared.stop.Refusal.TheVariants.{Images, Word}
 use Rattle.run_ends.specs.declared.stop.Stop.{Stop}
 use Rattle.run_ends.specs.declared.stop.Stop.TheVariants.{Refused as RefusedStop, SourceFault as SourceStop, OutOfMemory as MemoryStop}
-use Rattle.salvage_job.specs.Salvaging.{images_refusal, salvage_output, salvage_refusal, text_refusal}
+use Rattle.salvage_job.specs.Salvaging.{salvage_output, salvage_refusal, text_refusal}
 use Rattle.salvage_job.specs.declared.salvaging.Ready.{Ready}
+use Rattle.set_jobs.specs.Mapping.{images_refusal}
 use Rattle.set_jobs.specs.Writing.{volume_reads}
 use Rattle.reraid_nbd_cli.specs.Runs.{Ends, HasImages, IsUntouched, Leaves, Place, Runs, Tells, wire_of}
 use Rattle.reraid_nbd_cli.specs.Words.{Asks, AsksDamaged, alone_in, maps_at}

@@ -1,5 +1,5 @@
 -- How `salvage` ends.
-use Rattle.std.proofs.Common.{◌≡◌, ◌≤◌, ◌+◌, ℕ, Bool, true, false, List, None, Some, Option, Result, Ok, Err, IfOk, IfSome, IsErrOf, MatchResult, refl, sym, ap, ◌∙◌, subst, arith}
+use Rattle.std.proofs.Common.{◌≡◌, ◌≤◌, ◌+◌, ℕ, Bool, true, false, List, None, Some, Option, Result, Ok, Err, IfSome, MatchResult, refl, sym, ap, ◌∙◌, subst, arith}
 use Rattle.std.specs.Io.KnownBytes.{IsAtEnd}
 use Rattle.std.specs.Option.{option_map}
 use Rattle.outside.specs.Seen.{Image, Seen}
@@ -10,21 +10,19 @@ use Rattle.rescue_map.proofs.Padding.{salvaged_testable}
 use Rattle.rescue_map.proofs.Passed.{damage_of}
 use Rattle.rescue_map.specs.Damaged.{IsDamaged}
 use Rattle.rescue_map.specs.LostText.{lost_text}
-use Rattle.rescue_map.specs.Salvaged.{reads_for_all, salvaged, IsReadAhead}
+use Rattle.rescue_map.specs.Salvaged.{reads_for_all, salvaged}
 use Rattle.rescue_text.specs.RescueText.{rescue_sections}
 use Rattle.rescue_text.specs.declared.fault.RescueFault.{RescueFault}
 use Rattle.rescue_text.specs.declared.section.Section.{Section}
-use Rattle.run_ends.proofs.Printed.{ends_unput, keeps_itself, no_raise, raises_same, stays}
-use Rattle.run_ends.specs.Agreement.{end_of}
+use Rattle.run_ends.proofs.Printed.{no_raise, stays}
 use Rattle.run_ends.specs.Counts.{Raises}
-use Rattle.run_ends.specs.Jobs.{Answers, Does, Ends, EndsEarly, Heeds, IsSaid, Job, Takes, around, named}
+use Rattle.run_ends.specs.Jobs.{Answers, Does, Ends, Heeds, IsSaid, Job, Takes, around, named}
 use Rattle.run_ends.specs.Pieces.Pieces.{Sectors}
 use Rattle.run_ends.specs.Source.{TakesFew}
-use Rattle.run_ends.specs.Stops.{EndsBy}
 use Rattle.run_ends.specs.declared.stop.Refusal.{Refusal}
 use Rattle.run_ends.specs.declared.stop.Stop.{Stop}
-use Rattle.run_ends.specs.declared.stop.Stop.TheVariants.{Refused, ImageFault, SourceFault, OutFault, OutOfMemory}
-use Rattle.salvage_job.specs.Salvaging.{IsReady, IsUnready, images_refusal, salvage_job, salvage_output, salvage_reads, salvage_refusal}
+use Rattle.run_ends.specs.declared.stop.Stop.TheVariants.{ImageFault, SourceFault, OutOfMemory}
+use Rattle.salvage_job.specs.Salvaging.{IsReady, salvage_job, salvage_output, salvage_reads, salvage_refusal}
 use Rattle.salvage_job.specs.declared.salvaging.Ready.{Ready}
 use Rattle.set_jobs.proofs.Written.{writing_job}
 use Rattle.set_jobs.specs.Writing.{told_for}
@@ -148,69 +146,3 @@ does_salvage set end names seen left old new out put ready result is taken d = r
   apart = λ e. absurd (cc);
   world = d.world;
 }
-
--- the work does not begin
-pub does_nothing : {T U : Type 0} (set : Wide) (lost : Bool) (end : Option ℕ) (names : ℕ) (seen : Seen) (old new out : Stream) (stop : Stop) → IsUnready set end names seen.attached old.known stop → TakesFew 4194304 old.known new.known → Raises {T = U} SourceFault old.faults new.faults (Err stop) →
-    EndsEarly {T = U} (images_refusal set end names seen.attached) old new (Err stop) → Does {T = T} (salvage_job set lost end) (named names seen.attached) (around seen old) (around seen new) out out (Err stop)
-does_nothing {T} {U} set lost end names seen old new out stop is takes faults early = record {
-  ends = λ said says. ends_unput Sectors (salvage_refusal set end said names seen.attached) (salvage_output set lost end seen.attached (rescue_sections names said)) out.known stop (by stop is said says);
-  order = λ said says all refusal some. record { unread = refl; unput = keeps_itself out.known; no_image_fault = λ e. none stop is ImageFault (λ h. h) e; no_out_fault = λ e. none stop is OutFault (λ h. h) e };
-  reads = λ said says. omega arith;
-  takes = (takes, tt);
-  heeds = (λ all refusal some. let first = early refusal some in (same_refusal refusal first.0, first.1), λ own. says_itself set lost end old.known);
-  leaves = record {
-    images = no_raise ImageFault seen.faults (Err stop) (none stop is ImageFault (λ h. h));
-    source = raises_same SourceFault stop old.faults new.faults faults;
-    out = no_raise OutFault out.faults (Err stop) (none stop is OutFault (λ h. h));
-    unput = λ h. keeps_itself out.known;
-    unread = λ h. refl;
-  };
-  apart = λ e. refl;
-  world = refl;
-}
-  where
-    same_refusal : (refusal : Refusal) → IsErrOf {T = U} (Err stop) (Refused refusal) → IsErrOf {T = T} (Err stop) (Refused refusal)
-    same_refusal refusal e = let f = e in let same : stop ≡ Refused refusal = cc in ap (λ (s : Stop). Err s) same
-
-    by : (stop : Stop) → IsUnready set end names seen.attached old.known stop → (said : List ℕ) → old.known ≡ Some said → EndsBy (salvage_refusal set end said names seen.attached) stop
-    by (Refused refusal) is said says = told (λ text. salvage_refusal set end text names seen.attached ≡ Some refusal) old.known said is says
-    by ImageFault is said says = tt
-    by SourceFault is said says = tt
-    by OutFault is said says = tt
-    by OutOfMemory is said says = tt
-
-    none : (stop : Stop) → IsUnready set end names seen.attached old.known stop → (fault : Stop) → (IsUnready set end names seen.attached old.known fault → ⊥) → IsErrOf {T = T} (Err stop) fault → ⊥
-    none stop is fault other e =
-        let f = e in let g : stop ≡ fault = cc in
-        let P : Stop → Type 0 = λ s. IsUnready set end names seen.attached old.known s in other (subst P g is)
-
--- how far the reading is ahead, by what the source said
-pub ahead_ready : {A : Type 0} (set : Wide) (end : Option ℕ) (names : ℕ) (attached : List Image) (left : Option (List ℕ)) (ready : Ready) (bytes : Option A) (from to : ℕ) (a b : Option (List ℕ)) → IsReady set end names attached left ready →
-    IfSome bytes (λ images. IsReadAhead ready.rescue set (volume_sectors set.geo.head ready.end) from to a b) →
-    IfSome left (λ text. IfOk (rescue_sections names text) (λ sections. IfSome bytes (λ images. IsReadAhead sections set (volume_sectors set.geo.head (end_of end attached)) from to a b)))
-ahead_ready {A} set end names attached left ready bytes from to a b is ahead = by left is.sections
-  where
-    by : (l : Option (List ℕ)) → IfSome l (λ text. rescue_sections names text ≡ Ok ready.rescue) →
-        IfSome l (λ text. IfOk (rescue_sections names text) (λ sections. IfSome bytes (λ images. IsReadAhead sections set (volume_sectors set.geo.head (end_of end attached)) from to a b)))
-    by None h = tt
-    by (Some text) h =
-        subst (λ (r : Result (List Section) RescueFault). IfOk r (λ sections. IfSome bytes (λ images. IsReadAhead sections set (volume_sectors set.geo.head (end_of end attached)) from to a b))) (sym h)
-        (subst (λ (e : ℕ). IfSome bytes (λ images. IsReadAhead ready.rescue set (volume_sectors set.geo.head e) from to a b)) is.end_is ahead)
-
--- and where nothing was read or put
-pub ahead_idle : {A : Type 0} (set : Wide) (names : ℕ) (left : Option (List ℕ)) (bytes : Option A) (sectors from : ℕ) (a : Option (List ℕ)) →
-    IfSome left (λ text. IfOk (rescue_sections names text) (λ sections. IfSome bytes (λ images. IsReadAhead sections set sectors from from a a)))
-ahead_idle {A} set names left bytes sectors from a = by left
-  where
-    none : (sections : List Section) (b : Option A) (o : Option (List ℕ)) → IfSome b (λ images. IsReadAhead sections set sectors from from o o)
-    none sections None o = tt
-    none sections (Some images) None = tt
-    none sections (Some images) (Some xs) = omega arith
-
-    ok : (r : Result (List Section) RescueFault) → IfOk r (λ sections. IfSome bytes (λ images. IsReadAhead sections set sectors from from a a))
-    ok (Ok sections) = none sections bytes a
-    ok (Err fault) = tt
-
-    by : (l : Option (List ℕ)) → IfSome l (λ text. IfOk (rescue_sections names text) (λ sections. IfSome bytes (λ images. IsReadAhead sections set sectors from from a a)))
-    by None = tt
-    by (Some text) = ok (rescue_sections names text)

@@ -15,24 +15,17 @@ use Rattle.rescue_text.specs.RescueText.{rescue_sections}
 use Rattle.rescue_text.specs.declared.fault.RescueFault.{RescueFault}
 use Rattle.rescue_text.specs.declared.fault.RescueFault.TheVariants.{Line, Memory}
 use Rattle.rescue_text.specs.declared.section.Section.{Section}
-use Rattle.run_ends.specs.Agreement.{end_of, limits_fault}
+use Rattle.run_ends.specs.Agreement.{end_of}
 use Rattle.run_ends.specs.Jobs.{Job}
 use Rattle.run_ends.specs.Pieces.Pieces.{Sectors}
 use Rattle.run_ends.specs.Stops.{first_of}
 use Rattle.run_ends.specs.declared.stop.Refusal.{Refusal}
-use Rattle.run_ends.specs.declared.stop.Refusal.TheVariants.{Images, Set, Bases, RescueLine, RescueIsLong}
+use Rattle.run_ends.specs.declared.stop.Refusal.TheVariants.{Set, Bases, RescueLine, RescueIsLong}
 use Rattle.run_ends.specs.declared.stop.Stop.{Stop}
 use Rattle.run_ends.specs.declared.stop.Stop.TheVariants.{Refused, SourceFault, OutOfMemory}
 use Rattle.salvage_job.specs.declared.salvaging.Ready.{Ready}
-use Rattle.set_jobs.specs.Mapping.{long_refused}
+use Rattle.set_jobs.specs.Mapping.{images_refusal}
 use Rattle.set_jobs.specs.Writing.{told_for}
-
--- the images are none, too many or too short, or one is too long for the bases of the set
-unfoldable pub images_refusal : Wide → Option ℕ → ℕ → List Image → Option Refusal
-images_refusal set end names attached =
-    first_of (option_map (λ fault. Images fault) (limits_fault end names attached)
-    ∷ option_map (λ fault. Images fault) (long_refused set attached)
-    ∷ [])
 
 -- a text is no rescue text from a line on
 abbrev pub line_refusal : Result (List Section) RescueFault → Option Refusal

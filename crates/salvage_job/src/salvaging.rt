@@ -12,15 +12,16 @@ ghost use Rattle.run_ends.specs.Agreement.{end_of as end_of_images};
 ghost use Rattle.run_ends.specs.Counts.{Raises};
 ghost use Rattle.run_ends.specs.Jobs.{Does, EndsEarly, around, named, stream};
 ghost use Rattle.run_ends.specs.Source.{TakesFew};
-ghost use Rattle.salvage_job.specs.Salvaging.{IsReady, IsUnreadable, IsUnready, IsUnrescued, images_refusal, rule_refusal, salvage_job};
+ghost use Rattle.salvage_job.specs.Salvaging.{IsReady, IsUnreadable, IsUnready, IsUnrescued, rule_refusal, salvage_job};
+ghost use Rattle.set_jobs.specs.Mapping.{images_refusal};
 ghost use Rattle.set_jobs.specs.Writing.{told_for};
 
 use gates::Gate;
 use outside::{Images, MOST_ATTACHED, Sink, Source};
-use raid_params::{MOST, Wide, WideFault};
+use raid_params::{Wide, WideFault};
 use rescue_map::{Rescue, RescueFault, lost_text, read_rescue};
-use run_ends::{Refusal, Stop, end_of, limits_fault, print, text_left};
-use set_jobs::{long_for, stop_of};
+use run_ends::{Refusal, Stop, print, text_left};
+use set_jobs::{images_end, stop_of};
 use std::alloc::Global;
 use std::thread::Threads;
 use value_text::Text;
@@ -72,22 +73,13 @@ pub fn salvage<R: Threads + Sync, S: Source, I: Images, K: Sink, G: Gate + Sync>
     ensures untouched { IsTrue lost → I.seen images.new ≡ I.seen images.old }
     ensures kept { (I.seen images.new).attached ≡ (I.seen images.old).attached }
 {
-    match prepare(alloc, source, images, names, set, end) {
-        Ok(ready) if lost => print(out, lost_answer(alloc, set, &ready)),
-        Ok(ready) => match rescue_map::salvage(
-            rt,
-            alloc,
-            images,
-            set,
-            ready.end,
-            &ready.rescue,
-            out,
-            gate,
-        ) {
-            Ok(()) => Ok(()),
-            Err(fault) => Err(stop_of(fault)),
-        },
-        Err(stop) => Err(stop),
+    let ready = prepare(alloc, source, images, names, set, end)?;
+    if lost {
+        return print(out, lost_answer(alloc, set, &ready));
+    }
+    match rescue_map::salvage(rt, alloc, images, set, ready.end, &ready.rescue, out, gate) {
+        Ok(()) => Ok(()),
+        Err(fault) => Err(stop_of(fault)),
     }
 }
 
@@ -142,28 +134,6 @@ fn refusal_of(fault: WideFault) -> Refusal
         WideFault::Geo(fault) => Refusal::Set(fault),
         WideFault::Bases(count) => Refusal::Bases(count),
     }
-}
-
-/// The end of the members, where the images are such that the work goes on.
-fn images_end<I: Images>(
-    images: &I,
-    names: usize,
-    set: &Wide,
-    end: Option<u64>,
-) -> Result<u64, Refusal>
-    requires attached { length (I.seen images.now).attached ≡ min names MOST_ATTACHED }
-    ensures end { IfOk result (λ e. e ≡ end_of_images end (I.seen images.now).attached) }
-    ensures few { OnOk result (names ≤ MOST) }
-    ensures allowed { OnOk result (images_refusal set.now end names (I.seen images.now).attached ≡ None) }
-    ensures refused { IfErr result (λ refusal. images_refusal set.now end names (I.seen images.now).attached ≡ Some refusal) }
-{
-    if let Some(fault) = limits_fault(images, names, end) {
-        return Err(Refusal::Images(fault));
-    }
-    if let Some(fault) = long_for(images, names, set) {
-        return Err(Refusal::Images(fault));
-    }
-    Ok(end_of(images, names, end))
 }
 
 /// What was read of so many images, by the text that a source has left: 4,194,304 bytes of it at most. The text is let go.

@@ -74,11 +74,18 @@ nothing fault None e = refl
 nothing fault (Some i) e = absurd (cc)
 
 -- images of which none is too long
-pub short_images : (attached : List Image) → long_fault attached ≡ None → All (λ image. image.sectors < 2 ^ 54) attached
+short_images : (attached : List Image) → long_fault attached ≡ None → All (λ image. image.sectors < 2 ^ 54) attached
 short_images attached none = all_short attached (λ k lt.
     let there = get_or-range_with_len 0 (length (lengths_of attached)) k 0 lt in
     let at : get_or (range_with_len 0 (length (lengths_of attached))) k 0 ≡ k = omega arith in
     not_long (slice_index (lengths_of attached) k) (ap (λ (i : ℕ). nat_le (2 ^ 54) (slice_index (lengths_of attached) i)) (sym at) ∙ none_found (λ i. nat_le (2 ^ 54) (slice_index (lengths_of attached) i)) (range_with_len 0 (length (lengths_of attached))) (nothing _ (long_image (lengths_of attached)) none) k (let many = length-range_with_len 0 (length (lengths_of attached)) in omega arith)))
+
+pub short_for : (set : Wide) (attached : List Image) → long_refused set attached ≡ None → 0 < length set.bases.items → All (λ image. image.sectors < 2 ^ 54) attached
+short_for set attached short some = by_zero (length set.bases.items) (length set.bases.items == 0) refl some short
+  where
+    by_zero : (n : ℕ) (b : Bool) → (n == 0) ≡ b → 0 < n → cond b None (long_fault attached) ≡ None → All (λ image. image.sectors < 2 ^ 54) attached
+    by_zero n true is some e = absurd (let zero : n ≡ 0 = grind (arith, nat_tests) in omega arith)
+    by_zero n false is some e = short_images attached e
 
 one_for_each : (names : ℕ) (slots : List (Option ℕ)) (bases : List ℕ) (refusal : Refusal) → cond (has_bases names slots bases) None (Some refusal) ≡ None → 0 < length bases → length bases ≡ names
 one_for_each names slots bases refusal e some = told (length bases) (leaves_out names slots) (has_it (has_bases names slots bases) e) some
@@ -96,12 +103,5 @@ may_pad set names attached has count short none = record {
   each = λ some. one_for_each names set.geo.slots.items set.bases.items (Bases (length set.bases.items)) none some ∙ count;
   most = few_bases set.geo.head.offset set.bases.items has.offset;
   near = near_bases set.geo.head.offset set.bases.items has.offset;
-  short = λ some. short_images attached (told (length set.bases.items) some short);
+  short = short_for set attached short;
 }
-  where
-    by_zero : (n : ℕ) (b : Bool) → (n == 0) ≡ b → 0 < n → cond b None (long_fault attached) ≡ None → long_fault attached ≡ None
-    by_zero n true is some e = absurd (let zero : n ≡ 0 = grind (arith, nat_tests) in omega arith)
-    by_zero n false is some e = e
-
-    told : (n : ℕ) → 0 < n → cond (n == 0) None (long_fault attached) ≡ None → long_fault attached ≡ None
-    told n some e = by_zero n (n == 0) refl some e

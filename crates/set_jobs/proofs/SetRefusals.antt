@@ -11,67 +11,66 @@ use Rattle.raid_params.specs.Validity.{delay_fault, early_fault, first_fault, ha
 use Rattle.raid_params.specs.declared.types.GeoFault.TheVariants.{Delay}
 use Rattle.run_ends.specs.Agreement.{end_of, limits_fault}
 use Rattle.run_ends.specs.Jobs.{Refuses}
-use Rattle.set_jobs.specs.Mapping.{bases_refusal, geo_refusal, late_refusal, long_refused, map_refusal, sector_refusal, set_refusal}
+use Rattle.set_jobs.specs.Mapping.{bases_refusal, geo_refusal, images_refusal, late_refusal, long_refused, map_refusal, sector_refusal, set_refusal}
 use Rattle.run_ends.specs.Stops.{delay_refusal, first_of}
 use Rattle.run_ends.specs.declared.agreement.Disagreement.{Disagreement}
 use Rattle.run_ends.specs.declared.stop.Refusal.{Refusal}
 use Rattle.run_ends.specs.declared.stop.Refusal.TheVariants.{Bases, Images, Set}
 use Rattle.run_ends.specs.declared.stop.Stop.{Stop}
 
--- three refusals, of which the first is the answer
-refusals : Option Disagreement → Option Disagreement → Option GeoFault → Option Refusal
-refusals images long rule = first_of (option_map (λ (f : Disagreement). Images f) images ∷ option_map (λ (f : Disagreement). Images f) long ∷ option_map (λ (f : GeoFault). Set f) rule ∷ [])
-
-refusals_are : (set : Wide) (end : Option ℕ) (names : ℕ) (attached : List Image) → geo_refusal set end names attached ≡ refusals (limits_fault end names attached) (long_refused set attached) (early_fault set.geo names (end_of end attached))
-unfolding geo_refusal refusals
-refusals_are set end names attached = refl
-
-first_refusal : (fault : Disagreement) (long : Option Disagreement) (rule : Option GeoFault) → refusals (Some fault) long rule ≡ Some (Images fault)
-unfolding refusals
-first_refusal fault long rule = refl
-
-second_refusal : (fault : Disagreement) (rule : Option GeoFault) → refusals None (Some fault) rule ≡ Some (Images fault)
-unfolding refusals
-second_refusal fault rule = refl
-
-third_refusal : (rule : Option GeoFault) → refusals None None rule ≡ option_map (λ (f : GeoFault). Set f) rule
-unfolding refusals
-third_refusal None = refl
-third_refusal (Some fault) = refl
-
 -- the images disagree
-pub images_refused : (set : Wide) (end : Option ℕ) (names : ℕ) (attached : List Image) (fault : Disagreement) → limits_fault end names attached ≡ Some fault → geo_refusal set end names attached ≡ Some (Images fault)
-images_refused set end names attached fault e =
-    refusals_are set end names attached ∙ ap (λ r. refusals r (long_refused set attached) (early_fault set.geo names (end_of end attached))) e ∙ first_refusal fault (long_refused set attached) (early_fault set.geo names (end_of end attached))
+pub limits_refused : (set : Wide) (end : Option ℕ) (names : ℕ) (attached : List Image) (fault : Disagreement) → limits_fault end names attached ≡ Some fault → images_refusal set end names attached ≡ Some (Images fault)
+unfolding images_refusal
+limits_refused set end names attached fault e = ap (λ (r : Option Disagreement). first_of (option_map (λ (f : Disagreement). Images f) r ∷ option_map (λ (f : Disagreement). Images f) (long_refused set attached) ∷ [])) e
 
--- one of them is too long
-pub image_refused : (set : Wide) (end : Option ℕ) (names : ℕ) (attached : List Image) (fault : Disagreement) → limits_fault end names attached ≡ None → long_refused set attached ≡ Some fault → geo_refusal set end names attached ≡ Some (Images fault)
-image_refused set end names attached fault none e =
-    refusals_are set end names attached ∙ ap₂ (λ r s. refusals r s (early_fault set.geo names (end_of end attached))) none e ∙ second_refusal fault (early_fault set.geo names (end_of end attached))
+-- one of them is too long, or none
+image_refused : (set : Wide) (end : Option ℕ) (names : ℕ) (attached : List Image) (long : Option Disagreement) → limits_fault end names attached ≡ None → long_refused set attached ≡ long →
+    images_refusal set end names attached ≡ first_of (option_map (λ (f : Disagreement). Images f) long ∷ [])
+unfolding images_refusal
+image_refused set end names attached long none e =
+    ap₂ (λ (r s : Option Disagreement). first_of (option_map (λ (f : Disagreement). Images f) r ∷ option_map (λ (f : Disagreement). Images f) s ∷ [])) none e
 
-by_rule : (set : Wide) (end : Option ℕ) (names : ℕ) (attached : List Image) (rule : Option GeoFault) → limits_fault end names attached ≡ None → long_refused set attached ≡ None → early_fault set.geo names (end_of end attached) ≡ rule →
-    geo_refusal set end names attached ≡ option_map (λ (f : GeoFault). Set f) rule
-by_rule set end names attached rule none short e =
-    refusals_are set end names attached ∙ ap₂ (λ r s. refusals r s (early_fault set.geo names (end_of end attached))) none short ∙ ap (λ r. refusals None None r) e ∙ third_refusal rule
+pub length_refused : (set : Wide) (end : Option ℕ) (names : ℕ) (attached : List Image) (fault : Disagreement) → limits_fault end names attached ≡ None → long_refused set attached ≡ Some fault → images_refusal set end names attached ≡ Some (Images fault)
+length_refused set end names attached fault none e = image_refused set end names attached (Some fault) none e
 
--- the set breaks a rule
-pub rule_refused : (set : Wide) (end : Option ℕ) (names : ℕ) (attached : List Image) (fault : GeoFault) → limits_fault end names attached ≡ None → long_refused set attached ≡ None → early_fault set.geo names (end_of end attached) ≡ Some fault →
-    geo_refusal set end names attached ≡ Some (Set fault)
-rule_refused set end names attached fault none short e = by_rule set end names attached (Some fault) none short e
+pub images_allowed : (set : Wide) (end : Option ℕ) (names : ℕ) (attached : List Image) → limits_fault end names attached ≡ None → long_refused set attached ≡ None → images_refusal set end names attached ≡ None
+images_allowed set end names attached none short = image_refused set end names attached None none short
+
+-- images that are not refused
+pub images_kept : (set : Wide) (end : Option ℕ) (names : ℕ) (attached : List Image) → images_refusal set end names attached ≡ None → (limits_fault end names attached ≡ None) × (long_refused set attached ≡ None)
+unfolding images_refusal
+images_kept set end names attached e = both (limits_fault end names attached) (long_refused set attached) e
+  where
+    both : (limits long : Option Disagreement) → first_of (option_map (λ (f : Disagreement). Images f) limits ∷ option_map (λ (f : Disagreement). Images f) long ∷ []) ≡ None → (limits ≡ None) × (long ≡ None)
+    both None None e = (refl, refl)
+    both None (Some fault) e = absurd (cc)
+    both (Some fault) long e = absurd (cc)
+
+-- the images are refused, or else the set, if it breaks a rule
+pub images_refused : (set : Wide) (end : Option ℕ) (names : ℕ) (attached : List Image) (refusal : Refusal) → images_refusal set end names attached ≡ Some refusal → geo_refusal set end names attached ≡ Some refusal
+unfolding geo_refusal
+images_refused set end names attached refusal e = ap (λ r. first_of (r ∷ option_map (λ (f : GeoFault). Set f) (early_fault set.geo names (end_of end attached)) ∷ [])) e
+
+by_rule : (set : Wide) (end : Option ℕ) (names : ℕ) (attached : List Image) (rule : Option GeoFault) → images_refusal set end names attached ≡ None → early_fault set.geo names (end_of end attached) ≡ rule →
+    geo_refusal set end names attached ≡ first_of (option_map (λ (f : GeoFault). Set f) rule ∷ [])
+unfolding geo_refusal
+by_rule set end names attached rule none e = ap₂ (λ r (s : Option GeoFault). first_of (r ∷ option_map (λ (f : GeoFault). Set f) s ∷ [])) none e
+
+pub rule_refused : (set : Wide) (end : Option ℕ) (names : ℕ) (attached : List Image) (fault : GeoFault) → images_refusal set end names attached ≡ None → early_fault set.geo names (end_of end attached) ≡ Some fault → geo_refusal set end names attached ≡ Some (Set fault)
+rule_refused set end names attached fault none e = by_rule set end names attached (Some fault) none e
 
 -- none of these
-pub geo_allowed : (set : Wide) (end : Option ℕ) (names : ℕ) (attached : List Image) → limits_fault end names attached ≡ None → long_refused set attached ≡ None → early_fault set.geo names (end_of end attached) ≡ None → geo_refusal set end names attached ≡ None
-geo_allowed set end names attached none short e = by_rule set end names attached None none short e
+pub geo_allowed : (set : Wide) (end : Option ℕ) (names : ℕ) (attached : List Image) → images_refusal set end names attached ≡ None → early_fault set.geo names (end_of end attached) ≡ None → geo_refusal set end names attached ≡ None
+geo_allowed set end names attached none e = by_rule set end names attached None none e
 
-nothing_refused : (images long : Option Disagreement) (rule : Option GeoFault) → refusals images long rule ≡ None → (images ≡ None) × (long ≡ None)
-unfolding refusals
-nothing_refused None None rule e = (refl, refl)
-nothing_refused None (Some fault) rule e = absurd (cc)
-nothing_refused (Some fault) long rule e = absurd (cc)
-
--- the refusals of the images, in a set that is not refused
-pub none_refused : (set : Wide) (end : Option ℕ) (names : ℕ) (attached : List Image) → geo_refusal set end names attached ≡ None → (limits_fault end names attached ≡ None) × (long_refused set attached ≡ None)
-none_refused set end names attached h = nothing_refused (limits_fault end names attached) (long_refused set attached) (early_fault set.geo names (end_of end attached)) (sym (refusals_are set end names attached) ∙ h)
+-- the images, in a set that is not refused
+pub none_refused : (set : Wide) (end : Option ℕ) (names : ℕ) (attached : List Image) → geo_refusal set end names attached ≡ None → images_refusal set end names attached ≡ None
+unfolding geo_refusal
+none_refused set end names attached h = first (images_refusal set end names attached) (option_map (λ (f : GeoFault). Set f) (early_fault set.geo names (end_of end attached))) h
+  where
+    first : (r s : Option Refusal) → first_of (r ∷ s ∷ []) ≡ None → r ≡ None
+    first None s e = refl
+    first (Some refusal) s e = absurd (cc)
 
 -- the first of these is the answer, and then that of the bases or of the delay
 pub geo_refused : (set : Wide) (end : Option ℕ) (names : ℕ) (attached : List Image) (refusal : Refusal) → geo_refusal set end names attached ≡ Some refusal → set_refusal set end names attached ≡ Some refusal
@@ -133,7 +132,7 @@ pub map_set_refused : (set : Wide) (end : Option ℕ) (sector names : ℕ) (atta
 unfolding map_refusal
 map_set_refused set end sector names attached refusal e = ap (λ r. first_of (r ∷ sector_refusal set.geo.head (end_of end attached) sector ∷ [])) e
 
-first_alone : (r : Option Refusal) → first_of (r ∷ []) ≡ r
+pub first_alone : (r : Option Refusal) → first_of (r ∷ []) ≡ r
 first_alone None = refl
 first_alone (Some refusal) = refl
 

@@ -21,7 +21,7 @@ use Rattle.run_ends.specs.Stops.{EndsBy, first_of}
 use Rattle.set_jobs.specs.Faults.{stop_of_volume}
 use Rattle.set_jobs.specs.Writing.{IsServedBy, Writes, rebuild_refusal, slot_refusal}
 use Rattle.set_jobs.proofs.Bases.{may_pad, near_offset}
-use Rattle.set_jobs.proofs.SetRefusals.{none_refused}
+use Rattle.set_jobs.proofs.SetRefusals.{first_alone, images_kept, none_refused}
 use Rattle.run_ends.specs.declared.stop.Refusal.{Refusal}
 use Rattle.run_ends.specs.declared.stop.Refusal.TheVariants.{Slot}
 use Rattle.run_ends.specs.declared.stop.Stop.TheVariants.{ImageFault, SourceFault, OutFault, OutOfMemory}
@@ -40,7 +40,7 @@ reach_padded greatest end (base ∷ bases) (image ∷ images) all =
 pub served : (set : Wide) (end : Option ℕ) (names last : ℕ) (attached : List Image) → geo_refusal set end names attached ≡ None → bases_refusal set names ≡ None → HasWord set → All (λ image. image.sectors < 2 ^ 55) attached → IfSome end (λ sector. sector < 2 ^ 55) →
     length attached ≡ min names 65536 → last ≡ end_of end attached → first_fault set.geo names last ≡ None → IsServedBy set last attached
 served set end names last attached none suits word small near long is ruled =
-    let parts = none_refused set end names attached none in
+    let parts = images_kept set end names attached (none_refused set end names attached none) in
     let allowed = no_limits end names attached parts.0 in
     let few = allowed.few in
     let count : names ≡ length attached = omega arith in
@@ -72,11 +72,7 @@ pub slot_allowed : (set : Wide) (end : Option ℕ) (slot names : ℕ) (attached 
 unfolding rebuild_refusal
 slot_allowed set end slot names attached last none e is =
     ap (λ r. first_of (r ∷ slot_refusal set.geo slot ∷ late_refusal set names ∷ [])) none ∙ ap (λ (b : Bool). first_of (cond b None (Some (Slot slot)) ∷ late_refusal set names ∷ [])) e
-    ∙ alone (late_refusal set names) ∙ is
-  where
-    alone : (r : Option Refusal) → first_of (r ∷ []) ≡ r
-    alone None = refl
-    alone (Some refusal) = refl
+    ∙ first_alone (late_refusal set names) ∙ is
 
 -- what was written, over the bytes of the images
 told_map : (told : Option (List (List ℕ))) (content : List (List ℕ) → List ℕ) (P : List ℕ → Type 0) → IfSome told (λ bytes. P (content bytes)) → IfSome (option_map content told) P

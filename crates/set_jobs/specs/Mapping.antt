@@ -24,13 +24,17 @@ use Rattle.run_ends.specs.declared.stop.Refusal.TheVariants.{Images, Set, Bases,
 abbrev pub long_refused : Wide → List Image → Option Disagreement
 long_refused set attached = if length set.bases.items == 0 then None else long_fault attached
 
+-- the images are none, too many or too short, or one is too long for the bases of the set
+unfoldable pub images_refusal : Wide → Option ℕ → ℕ → List Image → Option Refusal
+images_refusal set end names attached =
+    first_of (option_map (λ fault. Images fault) (limits_fault end names attached)
+    ∷ option_map (λ fault. Images fault) (long_refused set attached)
+    ∷ [])
+
 -- the first refusals of a command over one set: the images, then the rules on the parameters but for the delay
 unfoldable pub geo_refusal : Wide → Option ℕ → ℕ → List Image → Option Refusal
 geo_refusal set end names attached =
-    first_of (option_map (λ fault. Images fault) (limits_fault end names attached)
-    ∷ option_map (λ fault. Images fault) (long_refused set attached)
-    ∷ option_map (λ fault. Set fault) (early_fault set.geo names (end_of end attached))
-    ∷ [])
+    first_of (images_refusal set end names attached ∷ option_map (λ fault. Set fault) (early_fault set.geo names (end_of end attached)) ∷ [])
 
 -- there are bases, and they suit the images or the slots not
 abbrev pub bases_refusal : Wide → ℕ → Option Refusal

@@ -8,5 +8,5 @@
 mod mapping;
 mod writing;
 
-pub use mapping::{long_for, map};
+pub use mapping::{images_end, map};
 pub use writing::{rebuild, served_end, stop_of, write};

@@ -5,7 +5,7 @@ ghost use Rattle.run_ends.specs.Printing.{or_dash};
 ghost use Rattle.outside.specs.Streams.{Stream};
 ghost use Rattle.run_ends.specs.Jobs.{Answers, Does, Refuses, around, named, stream};
 ghost use Rattle.run_ends.specs.Stops.{IsEarly};
-ghost use Rattle.set_jobs.specs.Mapping.{base_at, bases_refusal, geo_refusal, late_refusal, layout_name as layout_name_of, long_refused, map_job, map_text as map_text_of, name_line, place_line, sector_refusal, set_refusal};
+ghost use Rattle.set_jobs.specs.Mapping.{base_at, bases_refusal, geo_refusal, images_refusal, late_refusal, layout_name as layout_name_of, long_refused, map_job, map_text as map_text_of, name_line, place_line, sector_refusal, set_refusal};
 ghost use Rattle.value_text.specs.SetText.{HasWord};
 ghost use Rattle.raid_params.specs.Validity.{early_fault, first_fault, is_valid_head};
 ghost use Rattle.raid_terms.specs.Role.{p_of, q_of};
@@ -113,7 +113,7 @@ pub fn suited_end<I: Images>(
 
 /// The end of the members, where `names` images are such that a command over the set goes on, and the set breaks no
 /// rule but those on its bases and its delay.
-#[tactic(auto, using(run_ends::proofs::Lengths::end_near, crate::proofs::SetRefusals::images_refused, crate::proofs::SetRefusals::image_refused, crate::proofs::SetRefusals::rule_refused, crate::proofs::SetRefusals::geo_allowed))]
+#[tactic(auto, using(run_ends::proofs::Lengths::end_near, crate::proofs::SetRefusals::images_refused, crate::proofs::SetRefusals::rule_refused, crate::proofs::SetRefusals::geo_allowed))]
 pub fn allowed_end<I: Images>(
     images: &I,
     names: usize,
@@ -129,21 +129,38 @@ pub fn allowed_end<I: Images>(
     ensures few { OnOk result (names ≤ MOST) }
     ensures refused { IfErr result (λ refusal. geo_refusal set.now end names (I.seen images.now).attached ≡ Some refusal) }
 {
-    if let Some(fault) = limits_fault(images, names, end) {
-        return Err(Refusal::Images(fault));
-    }
-    if let Some(fault) = long_for(images, names, set) {
-        return Err(Refusal::Images(fault));
-    }
-    let end = end_of(images, names, end);
+    let end = images_end(images, names, set, end)?;
     match set.geo.validate_early(names as u8, end) {
         Ok(()) => Ok(end),
         Err(fault) => Err(Refusal::Set(fault)),
     }
 }
 
+/// The end of the members, where `names` images are such that a command over the set goes on.
+#[tactic(auto, using(crate::proofs::SetRefusals::limits_refused, crate::proofs::SetRefusals::length_refused, crate::proofs::SetRefusals::images_allowed))]
+pub fn images_end<I: Images>(
+    images: &I,
+    names: usize,
+    set: &Wide,
+    end: Option<u64>,
+) -> Result<u64, Refusal>
+    requires attached { length (I.seen images.now).attached ≡ min names MOST_ATTACHED }
+    ensures end { IfOk result (λ e. e ≡ end_of_images end (I.seen images.now).attached) }
+    ensures few { OnOk result (names ≤ MOST) }
+    ensures allowed { OnOk result (images_refusal set.now end names (I.seen images.now).attached ≡ None) }
+    ensures refused { IfErr result (λ refusal. images_refusal set.now end names (I.seen images.now).attached ≡ Some refusal) }
+{
+    if let Some(fault) = limits_fault(images, names, end) {
+        return Err(Refusal::Images(fault));
+    }
+    if let Some(fault) = long_for(images, names, set) {
+        return Err(Refusal::Images(fault));
+    }
+    Ok(end_of(images, names, end))
+}
+
 /// The first of `count` images that is too long for the bases of the set.
-pub fn long_for<I: Images>(images: &I, count: usize, set: &Wide) -> Option<Disagreement>
+fn long_for<I: Images>(images: &I, count: usize, set: &Wide) -> Option<Disagreement>
     requires attached { length (I.seen images.now).attached ≡ count }
     requires few { count ≤ MOST }
     ensures { result ≡ long_refused set.now (I.seen images.now).attached }

@@ -1,6 +1,6 @@
 use Rattle.std.proofs.Common.{sym, ◌∙◌}
-use Rattle.salvage_job.proofs.Readied.{images_allowed, length_refused, limits_refused}
-use Rattle.salvage_job.proofs.salvaging.images_end.Goals as goal
+use Rattle.set_jobs.proofs.SetRefusals.{length_refused, limits_refused}
+use Rattle.set_jobs.proofs.mapping.images_end.Goals as goal
 
 pub returns-in-Some-clause-refused : goal.returns-in-Some-clause-refused
 returns-in-Some-clause-refused g c = limits_refused c.args.set.now c.args.end c.args.names (g.I.Images.seen c.args.images.now).attached c.in-Some.fault (sym c.limits_fault.ensures ∙ c.in-Some.is)
@@ -8,6 +8,3 @@ returns-in-Some-clause-refused g c = limits_refused c.args.set.now c.args.end c.
 pub returns-in-Some-long_for-clause-refused : goal.returns-in-Some-long_for-clause-refused
 returns-in-Some-long_for-clause-refused g c =
     length_refused c.args.set.now c.args.end c.args.names (g.I.Images.seen c.args.images.now).attached c.in-Some-long_for.fault (sym c.limits_fault.ensures ∙ c.in_default.is) (sym c.long_for.ensures ∙ c.in-Some-long_for.is)
-
-pub returns-clause-allowed : goal.returns-clause-allowed
-returns-clause-allowed g c = images_allowed c.args.set.now c.args.end c.args.names (g.I.Images.seen c.args.images.now).attached (sym c.limits_fault.ensures ∙ c.in_default.is) (sym c.long_for.ensures ∙ c.in_default-long_for.is)

@@ -1,9 +1,9 @@
 -- What the job of `mirrors` prints and refuses, by the page.
-use Rattle.std.proofs.Common.{ℕ, ◌≡◌, ◌+◌, ◌*◌, ◌<◌, ◌≤◌, ◌^◌, min, max, Bool, true, false, cond, nat_eq, nat_lt, List, [], ◌∷◌, ◌++◌, length, map, codes, suc, refl, sym, ap, ap₂, ◌∙◌, subst, arith, inl, inr, IsTrue, Option, Some, None, Result, Ok, Err, IfOk, IfErr, IfSome, IsErrOf, OnOk, All}
+use Rattle.std.proofs.Common.{ℕ, ◌≡◌, ◌+◌, ◌*◌, ◌<◌, ◌≤◌, ◌^◌, min, max, Bool, true, false, cond, nat_lt, List, [], ◌∷◌, ◌++◌, length, map, codes, refl, sym, ap, ap₂, ◌∙◌, subst, arith, inl, inr, IsTrue, Option, Some, None, Result, Ok, Err, IfOk, IfErr, IfSome, IsErrOf, OnOk, All}
 use Rattle.std.specs.List.{AllByRecursion, flat_map, sum_by}
 use Rattle.std.specs.Option.{option_map, option_map_or}
 use Rattle.std.specs.Result.{IsErrAnd}
-use Rattle.std.proofs.lemmas.Bool.{cases_lt, le-leb, le-ltb, lt-leb, lt-ltb}
+use Rattle.std.proofs.lemmas.Bool.{cases_lt, le-ltb, lt-leb, lt-ltb}
 use Rattle.std.proofs.lemmas.Bool.Decides.{nat_tests}
 use Rattle.std.proofs.lemmas.List.Elements.{All-cons, All-nil, recursion_from_All}
 use Rattle.std.proofs.lemmas.List.Sums.{sum_by-le-sum_by}
@@ -44,6 +44,7 @@ use Rattle.run_ends.specs.declared.stop.Stop.{Stop}
 use Rattle.run_ends.specs.declared.stop.Stop.TheVariants.{ImageFault, OutFault, OutOfMemory, Refused, SourceFault}
 use Rattle.asked_values.proofs.Asked.{as_asked}
 use Rattle.asked_values.specs.Asked.{members_for}
+use Rattle.set_jobs.proofs.SetRefusals.{first_alone}
 use Rattle.near_jobs.specs.Mirroring.{AreMirrorWords, EndsMirrors, ask_of, mirrors_job, mirrors_output, mirrors_reads, mirrors_refusal, mirrors_text, page_reads, product_refusal, rank_line}
 use Rattle.near_jobs.specs.declared.mirroring.MirrorWords.{MirrorWords}
 
@@ -65,14 +66,6 @@ page_told (Some bytes) images ask from size span page text is all total e =
     (ap₂ (λ (n t : ℕ). share_line (codes "next ") n t) is.goes_on total)
 
 -- what is refused of a product
-pub many_is : (images : ℕ) (ask : NearAsk) (from : ℕ) → 2 ^ 64 ≤ near_total images ask → product_refusal images ask from ≡ Some Many
-many_is images ask from many = ap (λ (b : Bool). cond b (Some Many) (cond (nat_lt (near_total images ask) from) (Some (Cursor (record { from = from; total = near_total images ask }))) None)) (le-leb (2 ^ 64) (near_total images ask) many)
-
-pub cursor_is : (images : ℕ) (ask : NearAsk) (from : ℕ) → near_total images ask < 2 ^ 64 → near_total images ask < from → product_refusal images ask from ≡ Some (Cursor (record { from = from; total = near_total images ask }))
-cursor_is images ask from few past =
-    ap (λ (b : Bool). cond b (Some Many) (cond (nat_lt (near_total images ask) from) (Some (Cursor (record { from = from; total = near_total images ask }))) None)) (lt-leb (2 ^ 64) (near_total images ask) few)
-    ∙ ap (λ (b : Bool). cond b (Some (Cursor (record { from = from; total = near_total images ask }))) None) (lt-ltb (near_total images ask) from past)
-
 none_is : (images : ℕ) (ask : NearAsk) (from : ℕ) → near_total images ask < 2 ^ 64 → from ≤ near_total images ask → product_refusal images ask from ≡ None
 none_is images ask from few within =
     ap (λ (b : Bool). cond b (Some Many) (cond (nat_lt (near_total images ask) from) (Some (Cursor (record { from = from; total = near_total images ask }))) None)) (lt-leb (2 ^ 64) (near_total images ask) few)
@@ -104,10 +97,6 @@ cost_up images ask from to stop le =
     mul-le images (sum_by (f to) (near_numbered images ask)) images (sum_by (f stop) (near_numbered images ask)) (omega arith) less
 
 -- where the images are not refused
-first_alone : (r : Option Refusal) → first_of (r ∷ []) ≡ r
-first_alone None = refl
-first_alone (Some refusal) = refl
-
 pub images_refused : (asked : MirrorWords) (names : ℕ) (attached : List Image) (fault : Disagreement) → limits_fault asked.end names attached ≡ Some fault → mirrors_refusal asked names attached ≡ Some (Images fault)
 unfolding mirrors_refusal
 images_refused asked names attached fault e =

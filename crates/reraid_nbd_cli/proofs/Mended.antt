@@ -24,30 +24,10 @@ use Rattle.run_ends.specs.declared.stop.Stop.TheVariants.{Refused as RefusedStop
 use Rattle.salvage_job.proofs.Readied.{Reads, read_text}
 use Rattle.salvage_job.specs.Salvaging.{IsUnrescued, text_refusal}
 use Rattle.salvage_job.specs.declared.salvaging.Ready.{Ready}
+use Rattle.set_jobs.proofs.SetRefusals.{first_alone}
 use Rattle.reraid_nbd_cli.specs.Mapped.{CannotBegin, EndsByText, IsMendable, damaged_mirror, limits_refusal, mapped_cost, mended_output, mended_refusal}
 use Rattle.reraid_nbd_cli.specs.Runs.{Ends, Place}
 use Rattle.reraid_nbd_cli.specs.declared.ends.NbdEnd.{NbdEnd}
-
--- the three refusals
-of_three : Option Refusal → Option Refusal → Option Refusal → Option Refusal
-of_three images text mirror = first_of (images ∷ text ∷ mirror ∷ [])
-
-refusal_is : (set : NearSet) (end : Option ℕ) (given : Named) (text : List ℕ) → mended_refusal set end given text ≡ of_three (limits_refusal end given) (text_refusal given.names text) (mirror_refusal set end given.names given.attached)
-unfolding mended_refusal of_three
-refusal_is set end given text = refl
-
-first : (refusal : Refusal) (text mirror : Option Refusal) → of_three (Some refusal) text mirror ≡ Some refusal
-unfolding of_three
-first refusal text mirror = refl
-
-second : (refusal : Refusal) (mirror : Option Refusal) → of_three None (Some refusal) mirror ≡ Some refusal
-unfolding of_three
-second refusal mirror = refl
-
-third : (mirror : Option Refusal) → of_three None None mirror ≡ mirror
-unfolding of_three
-third None = refl
-third (Some refusal) = refl
 
 -- the images are within their limits, or not
 pub limits_are : (end : Option ℕ) (given : Named) (fault : Option Disagreement) → limits_fault end given.names given.attached ≡ fault → limits_refusal end given ≡ option_map (λ (f : Disagreement). Images f) fault
@@ -55,18 +35,17 @@ limits_are end given fault e = ap (λ r. option_map (λ (f : Disagreement). Imag
 
 -- so each refusal comes, where those before it do not
 by_limits : (set : NearSet) (end : Option ℕ) (given : Named) (text : List ℕ) (refusal : Refusal) → limits_refusal end given ≡ Some refusal → mended_refusal set end given text ≡ Some refusal
-by_limits set end given text refusal e =
-    let mirror = mirror_refusal set end given.names given.attached in
-    refusal_is set end given text ∙ ap (λ r. of_three r (text_refusal given.names text) mirror) e ∙ first refusal (text_refusal given.names text) mirror
+unfolding mended_refusal
+by_limits set end given text refusal e = ap (λ r. first_of (r ∷ text_refusal given.names text ∷ mirror_refusal set end given.names given.attached ∷ [])) e
 
 by_text : (set : NearSet) (end : Option ℕ) (given : Named) (text : List ℕ) (refusal : Refusal) → limits_refusal end given ≡ None → text_refusal given.names text ≡ Some refusal → mended_refusal set end given text ≡ Some refusal
-by_text set end given text refusal none e =
-    let mirror = mirror_refusal set end given.names given.attached in
-    refusal_is set end given text ∙ ap₂ (λ r s. of_three r s mirror) none e ∙ second refusal mirror
+unfolding mended_refusal
+by_text set end given text refusal none e = ap₂ (λ r s. first_of (r ∷ s ∷ mirror_refusal set end given.names given.attached ∷ [])) none e
 
 by_mirror : (set : NearSet) (end : Option ℕ) (given : Named) (text : List ℕ) (refused : Option Refusal) → limits_refusal end given ≡ None → text_refusal given.names text ≡ None → mirror_refusal set end given.names given.attached ≡ refused → mended_refusal set end given text ≡ refused
+unfolding mended_refusal
 by_mirror set end given text refused none read e =
-    refusal_is set end given text ∙ ap₂ (λ r s. of_three r s (mirror_refusal set end given.names given.attached)) none read ∙ third (mirror_refusal set end given.names given.attached) ∙ e
+    ap₂ (λ r s. first_of (r ∷ s ∷ mirror_refusal set end given.names given.attached ∷ [])) none read ∙ first_alone (mirror_refusal set end given.names given.attached) ∙ e
 
 -- the work does not begin
 pub unready_limits : (set : NearSet) (end : Option ℕ) (given : Named) (left : Option (List ℕ)) (refusal : Refusal) → limits_refusal end given ≡ Some refusal → CannotBegin (damaged_mirror set end given) left (RefusedStop refusal)

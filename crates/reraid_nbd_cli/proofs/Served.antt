@@ -10,14 +10,10 @@ use Rattle.nbd_text.specs.Dialogue.{dialogue}
 use Rattle.outside.specs.Seen.{Seen}
 use Rattle.outside.specs.Streams.{Stream}
 use Rattle.run_ends.specs.Counts.{Raises}
+use Rattle.reraid_nbd_cli.specs.Ends.{ended}
 use Rattle.reraid_nbd_cli.specs.Runs.{Shows, costing, place}
 use Rattle.reraid_nbd_cli.specs.declared.ends.NbdEnd.{NbdEnd}
 use Rattle.reraid_nbd_cli.specs.declared.ends.NbdEnd.TheVariants.{Stopped}
-
--- the end of a run by that of its server
-abbrev pub ended : Result (Unit {0}) NbdStop → Result (Unit {0}) NbdEnd
-ended (Ok done) = Ok done
-ended (Err stop) = Err (Stopped stop)
 
 same_stop : (result : Result (Unit {0}) NbdStop) (fault : NbdStop) → IsErrOf (ended result) (Stopped fault) → IsErrOf result fault
 same_stop (Ok done) fault e = absurd (cc)

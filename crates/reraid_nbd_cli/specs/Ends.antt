@@ -30,6 +30,11 @@ end_notice MapsFault = (16, codes "reraid: maps read fault\n")
 end_notice (Long sectors) = (15, long_line sectors)
 end_notice (Stopped stop) = stop_notice stop
 
+-- how a run ends, by how its server did
+abbrev pub ended : Result (Unit {0}) NbdStop → Result (Unit {0}) NbdEnd
+ended (Ok done) = Ok done
+ended (Err stop) = Err (Stopped stop)
+
 -- how a run ends where `salvage` would stop before it writes
 abbrev pub end_of_stop : Stop → NbdEnd
 end_of_stop (RefusedStop refusal) = Refused refusal

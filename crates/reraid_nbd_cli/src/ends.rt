@@ -1,7 +1,7 @@
 //! Why a run ends without the dialogue's end.
 ghost use Rattle.std.specs.Prelude.{◌≡◌, ◌≤◌, length};
 ghost use Rattle.nbd_server.specs.declared.stop.NbdStop.TheVariants.{OutOfMemory};
-ghost use Rattle.reraid_nbd_cli.specs.Ends.{end_notice, long_line as long_line_of, stop_notice as stop_notice_of};
+ghost use Rattle.reraid_nbd_cli.specs.Ends.{end_notice, ended as ended_of, long_line as long_line_of, stop_notice as stop_notice_of};
 ghost use Rattle.reraid_nbd_cli.specs.declared.ends.NbdEnd.TheVariants.{Refused, Stopped};
 
 use arrayvec::ArrayString;
@@ -33,14 +33,6 @@ impl From<Memory> for NbdEnd {
     }
 }
 
-impl From<NbdStop> for NbdEnd {
-    ghost from_gives = { λ stop end. end ≡ Stopped stop };
-
-    fn from(stop: NbdStop) -> NbdEnd {
-        NbdEnd::Stopped(stop)
-    }
-}
-
 impl From<Refusal> for NbdEnd {
     ghost from_gives = { λ refusal end. end ≡ Refused refusal };
 
@@ -68,6 +60,16 @@ impl NbdEnd {
             },
             NbdEnd::Stopped(stop) => stop_notice(*stop),
         }
+    }
+}
+
+/// How a run ends, by how its server did.
+pub(crate) fn ended(served: Result<(), NbdStop>) -> Result<(), NbdEnd>
+    ensures { result ≡ ended_of served }
+{
+    match served {
+        Ok(()) => Ok(()),
+        Err(stop) => Err(NbdEnd::Stopped(stop)),
     }
 }
 

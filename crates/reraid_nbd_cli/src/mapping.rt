@@ -12,7 +12,7 @@ ghost use Rattle.reraid_nbd_cli.specs.Ends.{end_of_stop as end_of};
 ghost use Rattle.reraid_nbd_cli.specs.Mapped.{ShowsMapped, damaged_set};
 ghost use Rattle.reraid_nbd_cli.specs.Runs.{AreImages, Shows, place_of};
 
-use crate::ends::NbdEnd;
+use crate::ends::{NbdEnd, ended};
 use crate::showing::SECTORS_END;
 use address_map::volume_sectors;
 use damaged_device::DamagedDevice;
@@ -113,5 +113,5 @@ fn show_damage<I: Images, S: Source, K: Sink>(
     let mut kept = Kept::new(alloc, geo)?;
     let mut row = zeros(alloc, SECTOR * geo.slots.len())?;
     let mut device = DamagedDevice::new(images, damage, &mut kept, &mut row);
-    Ok(serve(alloc, &mut device, source, out)?)
+    ended(serve(alloc, &mut device, source, out))
 }

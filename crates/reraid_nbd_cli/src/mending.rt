@@ -11,7 +11,7 @@ ghost use Rattle.run_ends.specs.Source.{TakesFew};
 ghost use Rattle.reraid_nbd_cli.specs.Mapped.{CannotBegin, IsMendable, ShowsMapped, damaged_mirror as damaged_mirror_of, limits_refusal};
 ghost use Rattle.reraid_nbd_cli.specs.Runs.{AreImages, Shows, place_of};
 
-use crate::ends::NbdEnd;
+use crate::ends::{NbdEnd, ended};
 use crate::mapping::end_of_stop;
 use crate::showing::SECTORS_END;
 use block_device::BlockDevice;
@@ -105,5 +105,5 @@ fn show_good_copies<I: Images, S: Source, K: Sink>(
     if sectors >= SECTORS_END {
         return Err(NbdEnd::Long(sectors));
     }
-    Ok(serve(alloc, &mut device, source, out)?)
+    ended(serve(alloc, &mut device, source, out))
 }

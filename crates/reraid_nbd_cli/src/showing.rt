@@ -6,13 +6,13 @@ ghost use Rattle.near_mirror.specs.Copies.{near_sectors};
 ghost use Rattle.near_volume.specs.Mirrored.{IsMirrored};
 ghost use Rattle.near_jobs.specs.MirrorWriting.{mirror_output, mirror_reads, mirror_refusal};
 ghost use Rattle.set_jobs.specs.Mapping.{set_refusal};
-ghost use Rattle.set_jobs.specs.Writing.{IsServedBy, told_for, volume_reads, write_output};
+ghost use Rattle.set_jobs.specs.Writing.{told_for, volume_reads, write_output};
 ghost use Rattle.value_text.specs.SetText.{HasWord};
 ghost use Rattle.virtual_volume.specs.Served.{IsServed};
 ghost use Rattle.volume_device.specs.Lengths.{mirror_told, volume_told};
 ghost use Rattle.reraid_nbd_cli.specs.Runs.{AreImages, Shows, costs_of, mirror_cost, place_of};
 
-use crate::ends::NbdEnd;
+use crate::ends::{NbdEnd, ended};
 use address_map::volume_sectors;
 use block_device::BlockDevice;
 use image_padding::Padded;
@@ -28,7 +28,7 @@ use volume_device::{Kept, MirrorDevice, ParityDevice};
 /// A volume of so many sectors has 2^63 bytes.
 pub(crate) const SECTORS_END: u64 = 1 << 54;
 
-/// Serves the volume of a set over attached images. `names` is the number of images; `end` is the image sector after the last one of
+/// Serves the volume of a set over attached images, which are padded where the set has bases. `names` is the number of images; `end` is the image sector after the last one of
 /// the members, or None for the shortest image's.
 pub(crate) fn show_set<I: Images, S: Source, K: Sink>(
     alloc: Global,
@@ -48,23 +48,6 @@ pub(crate) fn show_set<I: Images, S: Source, K: Sink>(
         (place_of I.seen S.left S.faults K.gained K.faults images.new source.new out.new) result }
 {
     let end = served_end(images, names, set, end)?;
-    show_based(alloc, images, set, end, source, out)
-}
-
-/// Serves the volume of a set over its images, which are padded where the set has bases.
-fn show_based<I: Images, S: Source, K: Sink>(
-    alloc: Global,
-    images: &mut I,
-    set: &Wide,
-    end: u64,
-    source: &mut S,
-    out: &mut K,
-) -> Result<(), NbdEnd>
-    requires { IsServedBy set.now end (I.seen images.old).attached }
-    ensures { Shows None (volume_sectors_of set.now.geo.head end) (volume_told (told_for set.now (I.seen images.old).attached) set.now.geo end) (costs_of set.now.geo)
-        (place_of I.seen S.left S.faults K.gained K.faults images.old source.old out.old)
-        (place_of I.seen S.left S.faults K.gained K.faults images.new source.new out.new) result }
-{
     if set.bases.is_empty() {
         show_parity(alloc, images, &set.geo, end, source, out)
     } else {
@@ -93,7 +76,7 @@ fn show_parity<I: Images, S: Source, K: Sink>(
     }
     let mut kept = Kept::new(alloc, geo)?;
     let mut device = ParityDevice::new(images, geo, end, &mut kept);
-    Ok(serve(alloc, &mut device, source, out)?)
+    ended(serve(alloc, &mut device, source, out))
 }
 
 /// Serves the volume of a mirror over attached images. `names` is the number of images; `end` is the image sector after the last one
@@ -137,5 +120,5 @@ fn show_copies<I: Images, S: Source, K: Sink>(
     if sectors >= SECTORS_END {
         return Err(NbdEnd::Long(sectors));
     }
-    Ok(serve(alloc, &mut device, source, out)?)
+    ended(serve(alloc, &mut device, source, out))
 }

@@ -1,6 +1,5 @@
-use Rattle.std.proofs.Common.{◌≡◌, ◌∙◌, ℕ, ◌≤◌, Ok, Err, IfSome, ap, arith, refl, subst, rules}
+use Rattle.std.proofs.Common.{◌≡◌, ◌∙◌, ℕ, ◌≤◌, IfSome, ap, arith, refl, subst, rules}
 use Rattle.std.proofs.lemmas.Option.{IfSome_then}
-use Rattle.std.proofs.lemmas.Result.{err_from_is_err_and}
 use Rattle.block_device.specs.Reading.{Costs, counts_of}
 use Rattle.nbd_server.specs.Served.{Serves}
 use Rattle.nbd_server.specs.Turns.{wire}
@@ -32,43 +31,16 @@ returns g c =
     let volume = c.new-device.ensures.volume in
     let fixed = c.serve.ensures.fixed in
     let kept : served.images.ghost_name ≡ device.images.ghost_name = ap (λ f. f.reference) fixed in
-    let counted = IfSome_then (volume_told (told_all (g.I.Images.seen device.images.now).attached) device.geo.now device.end) c.in_ok-serve.ensures.serves (λ bytes serves.
-    serves_counted (dialogue bytes) (wire source.known out.known device) (wire taken.known put.known served) (Ok c.in_ok-serve.field-0) serves (λ d. counts_of (g.I.Images.seen d.images.now)) (λ d. d.geo.now ≡ device.geo.now) (costs_of device.geo.now)
+    let counted = IfSome_then (volume_told (told_all (g.I.Images.seen device.images.now).attached) device.geo.now device.end) c.serve.ensures.serves (λ bytes serves.
+    serves_counted (dialogue bytes) (wire source.known out.known device) (wire taken.known put.known served) c.serve.result serves (λ d. counts_of (g.I.Images.seen d.images.now)) (λ d. d.geo.now ≡ device.geo.now) (costs_of device.geo.now)
     (λ before after asked failed stays read. (subst (λ (q : Geometry). Costs (range_cost q asked.first asked.count) failed (counts_of (g.I.Images.seen before.images.now)) (counts_of (g.I.Images.seen after.images.now))) stays read.0, read.1 ∙ stays)) refl) in
-    let here = subst (λ v. IfSome (volume_told (told_all (g.I.Images.seen v).attached) geo c.args.end) (λ bytes. Serves (costing (costs_of geo)) (dialogue bytes) (wire source.known out.known (counts_of (g.I.Images.seen v))) (wire taken.known put.known (counts_of new)) (Ok c.in_ok-serve.field-0))) within
-    (subst (λ (e : ℕ). IfSome (volume_told (told_all (g.I.Images.seen device.images.now).attached) geo e) (λ bytes. Serves (costing (costs_of geo)) (dialogue bytes) (wire source.known out.known (counts_of (g.I.Images.seen device.images.now))) (wire taken.known put.known (counts_of new)) (Ok c.in_ok-serve.field-0))) volume.1
-    (subst (λ q. IfSome (volume_told (told_all (g.I.Images.seen device.images.now).attached) q device.end) (λ bytes. Serves (costing (costs_of q)) (dialogue bytes) (wire source.known out.known (counts_of (g.I.Images.seen device.images.now))) (wire taken.known put.known (counts_of new)) (Ok c.in_ok-serve.field-0))) volume.0 counted)) in
-    let later : old.faults ≤ new.faults = subst (λ v. (g.I.Images.seen v).faults ≤ new.faults) within c.in_ok-serve.ensures.later in
-    let done = shown_served (volume_sectors geo.head c.args.end) (volume_told (told_all old.attached) geo c.args.end) (costs_of geo) old new source taken out put (Ok c.in_ok-serve.field-0) (omega (arith, c.volume_sectors-sectors.ensures)) here
-    (ap (λ f. f.world) fixed ∙ ap (λ v. (g.I.Images.seen v).world) within) (ap (λ f. f.attached) fixed ∙ ap (λ v. (g.I.Images.seen v).attached) within) later c.in_ok-serve.ensures.source c.in_ok-serve.ensures.sink in
-    search rules
-
-pub returns-in_err-serve : goal.returns-in_err-serve
-returns-in_err-serve g c =
-    let device = c.new-device.result in
-    let served = c.serve.new.device in
-    let geo = c.args.geo.now in
-    let old = g.I.Images.seen c.args.images.now in
-    let new = g.I.Images.seen served.images.now in
-    let source = stream (g.S.Source.left c.args.source.now) (g.S.Source.faults c.args.source.now) in
-    let taken = stream (g.S.Source.left c.serve.new.source) (g.S.Source.faults c.serve.new.source) in
-    let out = stream (g.K.Sink.gained c.args.out.now) (g.K.Sink.faults c.args.out.now) in
-    let put = stream (g.K.Sink.gained c.serve.new.out) (g.K.Sink.faults c.serve.new.out) in
-    let within = c.new-device.ensures.within in
-    let volume = c.new-device.ensures.volume in
-    let fixed = c.serve.ensures.fixed in
-    let kept : served.images.ghost_name ≡ device.images.ghost_name = ap (λ f. f.reference) fixed in
-    let counted = IfSome_then (volume_told (told_all (g.I.Images.seen device.images.now).attached) device.geo.now device.end) c.in_err-serve.ensures.serves (λ bytes serves.
-    serves_counted (dialogue bytes) (wire source.known out.known device) (wire taken.known put.known served) (Err c.in_err-serve.field-0.0) serves (λ d. counts_of (g.I.Images.seen d.images.now)) (λ d. d.geo.now ≡ device.geo.now) (costs_of device.geo.now)
-    (λ before after asked failed stays read. (subst (λ (q : Geometry). Costs (range_cost q asked.first asked.count) failed (counts_of (g.I.Images.seen before.images.now)) (counts_of (g.I.Images.seen after.images.now))) stays read.0, read.1 ∙ stays)) refl) in
-    let here = subst (λ v. IfSome (volume_told (told_all (g.I.Images.seen v).attached) geo c.args.end) (λ bytes. Serves (costing (costs_of geo)) (dialogue bytes) (wire source.known out.known (counts_of (g.I.Images.seen v))) (wire taken.known put.known (counts_of new)) (Err c.in_err-serve.field-0.0))) within
-    (subst (λ (e : ℕ). IfSome (volume_told (told_all (g.I.Images.seen device.images.now).attached) geo e) (λ bytes. Serves (costing (costs_of geo)) (dialogue bytes) (wire source.known out.known (counts_of (g.I.Images.seen device.images.now))) (wire taken.known put.known (counts_of new)) (Err c.in_err-serve.field-0.0))) volume.1
-    (subst (λ q. IfSome (volume_told (told_all (g.I.Images.seen device.images.now).attached) q device.end) (λ bytes. Serves (costing (costs_of q)) (dialogue bytes) (wire source.known out.known (counts_of (g.I.Images.seen device.images.now))) (wire taken.known put.known (counts_of new)) (Err c.in_err-serve.field-0.0))) volume.0 counted)) in
-    let later : old.faults ≤ new.faults = subst (λ v. (g.I.Images.seen v).faults ≤ new.faults) within c.in_err-serve.ensures.later in
-    let done = shown_served (volume_sectors geo.head c.args.end) (volume_told (told_all old.attached) geo c.args.end) (costs_of geo) old new source taken out put (Err c.in_err-serve.field-0.0) (omega (arith, c.volume_sectors-sectors.ensures)) here
-    (ap (λ f. f.world) fixed ∙ ap (λ v. (g.I.Images.seen v).world) within) (ap (λ f. f.attached) fixed ∙ ap (λ v. (g.I.Images.seen v).attached) within) later c.in_err-serve.ensures.source c.in_err-serve.ensures.sink in
-    let p = err_from_is_err_and c.from_residual-in_err-serve.result c.from_residual-in_err-serve.ensures.1 in
-    rw (p.1, p.2) (search rules)
+    let here = subst (λ v. IfSome (volume_told (told_all (g.I.Images.seen v).attached) geo c.args.end) (λ bytes. Serves (costing (costs_of geo)) (dialogue bytes) (wire source.known out.known (counts_of (g.I.Images.seen v))) (wire taken.known put.known (counts_of new)) c.serve.result)) within
+    (subst (λ (e : ℕ). IfSome (volume_told (told_all (g.I.Images.seen device.images.now).attached) geo e) (λ bytes. Serves (costing (costs_of geo)) (dialogue bytes) (wire source.known out.known (counts_of (g.I.Images.seen device.images.now))) (wire taken.known put.known (counts_of new)) c.serve.result)) volume.1
+    (subst (λ q. IfSome (volume_told (told_all (g.I.Images.seen device.images.now).attached) q device.end) (λ bytes. Serves (costing (costs_of q)) (dialogue bytes) (wire source.known out.known (counts_of (g.I.Images.seen device.images.now))) (wire taken.known put.known (counts_of new)) c.serve.result)) volume.0 counted)) in
+    let later : old.faults ≤ new.faults = subst (λ v. (g.I.Images.seen v).faults ≤ new.faults) within c.serve.ensures.later in
+    let done = shown_served (volume_sectors geo.head c.args.end) (volume_told (told_all old.attached) geo c.args.end) (costs_of geo) old new source taken out put c.serve.result (omega (arith, c.volume_sectors-sectors.ensures)) here
+    (ap (λ f. f.world) fixed ∙ ap (λ v. (g.I.Images.seen v).world) within) (ap (λ f. f.attached) fixed ∙ ap (λ v. (g.I.Images.seen v).attached) within) later c.serve.ensures.source c.serve.ensures.sink in
+    rw c.ended.ensures (search rules)
 
 pub volume_sectors-sectors-requires-clause-head : goal.volume_sectors-sectors-requires-clause-head
 volume_sectors-sectors-requires-clause-head g c = served_head c.args.geo.now c.args.end (g.I.Images.seen c.args.images.now).attached c.requires

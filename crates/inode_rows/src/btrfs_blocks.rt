@@ -4,13 +4,9 @@ ghost use Rattle.std.specs.Prelude.{◌<◌};
 use crate::btrfs_leaves::{
     HEADER, LEAF_BACK, LEAF_FRONT, SINGLE_BACK, SINGLE_FRONT, SINGLE_HEADER,
 };
+use crate::sectors::{MADE, sector_of};
 use btrfstree::{TreeBlock, is_whole, read_block, read_leaf_chunk};
 use uuid::Uuid;
-
-// The identifier with which all of them were made.
-const MADE: [u8; 16] = [
-    0x01, 0x23, 0x45, 0x67, 0x89, 0xab, 0xcd, 0xef, 0x01, 0x23, 0x45, 0x67, 0x89, 0xab, 0xcd, 0xef,
-];
 
 // A block that begins with these bytes and has others from a place on, with zeros elsewhere.
 fn block(front: &[u8], back: &[u8], from: usize) -> [u8; 16_384] {
@@ -24,20 +20,11 @@ fn block(front: &[u8], back: &[u8], from: usize) -> [u8; 16_384] {
     block
 }
 
-// A sector that begins with these bytes.
-fn sector(front: &[u8]) -> [u8; 512] {
-    let mut sector = [0; 512];
-    for (to, byte) in sector.iter_mut().zip(front) {
-        *to = *byte;
-    }
-    sector
-}
-
 // The sector with another byte at a place.
 fn changed(front: &[u8], at: usize, byte: u8) -> [u8; 512]
     requires { at < 512 }
 {
-    let mut sector = sector(front);
+    let mut sector = sector_of(front);
     sector[at] = byte;
     sector
 }
@@ -54,10 +41,10 @@ fn made(address: u64, generation: u64, is_chunk_leaf: bool) -> Option<TreeBlock>
 
 #[test]
 fn blocks_of_dump_tree(rt: HostRuntime) {
-    assert!(rt; read_block(&sector(&LEAF_FRONT)) == made(22_036_480, 6, true));
-    assert!(rt; read_block(&sector(&SINGLE_FRONT)) == made(1_064_960, 5, true));
-    assert!(rt; read_block(&sector(&HEADER)) == made(30_474_240, 7, false));
-    assert!(rt; read_block(&sector(&SINGLE_HEADER)) == made(5_439_488, 5, false));
+    assert!(rt; read_block(&sector_of(&LEAF_FRONT)) == made(22_036_480, 6, true));
+    assert!(rt; read_block(&sector_of(&SINGLE_FRONT)) == made(1_064_960, 5, true));
+    assert!(rt; read_block(&sector_of(&HEADER)) == made(30_474_240, 7, false));
+    assert!(rt; read_block(&sector_of(&SINGLE_HEADER)) == made(5_439_488, 5, false));
 }
 
 #[test]

@@ -7,27 +7,15 @@ use crate::ext_sectors::{
     SEEDED_INODES, SEEDED_SECOND, SHORT_FIRST, SHORT_INODES, SHORT_SECOND, SMALL_DESCRIPTORS,
     SMALL_FIRST, SMALL_INODES, SMALL_SECOND, SPREAD_FIRST, SPREAD_SECOND,
 };
+use crate::sectors::{MADE, turned};
 use crc32c::after;
 use inode_marks::{InodeTables, read_any_pair, read_pair, read_table, read_tables};
-
-// The identifier of all of them.
-const UUID: [u8; 16] = [
-    0x01, 0x23, 0x45, 0x67, 0x89, 0xab, 0xcd, 0xef, 0x01, 0x23, 0x45, 0x67, 0x89, 0xab, 0xcd, 0xef,
-];
 
 // The seed that `dumpe2fs` prints.
 const SEED: u32 = 0x688c_b585;
 
 // The inodes that `dumpe2fs` prints of all of them.
 const INODES: u32 = 16_384;
-
-// A sector with the bits of a byte turned.
-fn turned(mut sector: [u8; 512], at: usize) -> [u8; 512]
-    requires { at < 512 }
-{
-    sector[at] ^= 0xFF;
-    sector
-}
 
 // The first half of one sector, and the second of another.
 fn halves(mut first: [u8; 512], second: &[u8; 512]) -> [u8; 512] {
@@ -57,7 +45,7 @@ fn table_at(tables: &InodeTables, group: u32, sector: &[u8; 512], at: usize) -> 
 
 #[test]
 fn numbers_of_debugfs(rt: HostRuntime) {
-    let seed = after(u32::MAX, &UUID);
+    let seed = after(u32::MAX, &MADE);
     assert!(rt; read_pair(seed, INODES, &SMALL_INODES) == Some(257));
     assert!(rt; read_pair(SEED, INODES, &SEEDED_INODES) == Some(13));
     assert!(rt; read_any_pair(&SMALL_INODES).is_none() && read_any_pair(&SEEDED_INODES).is_none());
@@ -65,7 +53,7 @@ fn numbers_of_debugfs(rt: HostRuntime) {
 
 #[test]
 fn no_pairs(rt: HostRuntime) {
-    let seed = after(u32::MAX, &UUID);
+    let seed = after(u32::MAX, &MADE);
     let other = after(u32::MAX, &[0x11; 16]);
     assert!(rt; read_pair(other, INODES, &SMALL_INODES).is_none());
     assert!(rt; read_pair(seed, 258, &SMALL_INODES) == Some(257));
@@ -86,7 +74,7 @@ fn tables_of_dumpe2fs(rt: HostRuntime) {
             assert!(rt;
                 tables.block == 1024 && tables.group_inodes == 2048 && tables.descriptor == 64
             );
-            assert!(rt; tables.seed == after(u32::MAX, &UUID));
+            assert!(rt; tables.seed == after(u32::MAX, &MADE));
             assert!(rt; table_at(&tables, 0, &SMALL_DESCRIPTORS, 0) == Some(275));
             assert!(rt; table_at(&tables, 1, &SMALL_DESCRIPTORS, 64) == Some(787));
             assert!(rt; table_at(&tables, 3, &SMALL_DESCRIPTORS, 192) == Some(1811));

@@ -19,6 +19,8 @@ mod ext_copies;
 #[cfg(test)]
 mod ext_sectors;
 #[cfg(test)]
+mod sectors;
+#[cfg(test)]
 mod xfs;
 #[cfg(test)]
 mod xfs_sectors;

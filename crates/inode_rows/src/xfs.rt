@@ -1,19 +1,15 @@
 //! Inodes of XFS and their places, and what makes none.
 ghost use Rattle.std.specs.Prelude.{◌<◌};
 
-use crate::xfs_sectors::{
-    INODE, LARGE_INODE, LARGE_REST, LARGE_SUPER, LARGEST_INODE, LARGEST_SUPER, SUPER, WIDE_INODE,
-    WIDE_SUPER,
-};
+use crate::sectors::{MADE, sector_of, turned};
+use crate::xfs_sectors::{INODE, LARGEST_INODE, SUPER, WIDE_INODE, WIDE_SUPER};
+use test_objects::{LARGE_INODE, LARGE_SUPER, LARGEST_SUPER};
 use uuid::Uuid;
 use xfs5::{XfsInode, read_inode, read_inodes, read_larger, read_start};
 
 // The identifier with which all of them were made.
 fn made() -> Uuid {
-    Uuid::from_bytes([
-        0x01, 0x23, 0x45, 0x67, 0x89, 0xab, 0xcd, 0xef, 0x01, 0x23, 0x45, 0x67, 0x89, 0xab, 0xcd,
-        0xef,
-    ])
+    Uuid::from_bytes(MADE)
 }
 
 // What an inode is read as.
@@ -24,26 +20,20 @@ fn numbered(number: u64) -> Option<XfsInode> {
     })
 }
 
-// A sector with the bits of a byte turned.
-fn turned(mut sector: [u8; 512], at: usize) -> [u8; 512]
-    requires { at < 512 }
-{
-    sector[at] ^= 0xFF;
-    sector
-}
-
 #[test]
 fn numbers_of_xfs_db(rt: HostRuntime) {
+    let large = sector_of(&LARGE_INODE);
     assert!(rt; read_inode(&INODE, &[]) == numbered(655_488));
     assert!(rt; read_inode(&WIDE_INODE, &[]) == numbered(263_424));
-    assert!(rt; read_inode(&LARGE_INODE, &LARGE_REST) == numbered(328_064));
+    assert!(rt; read_inode(&large, &[0; 512]) == numbered(328_064));
 }
 
 #[test]
 fn no_inodes(rt: HostRuntime) {
-    assert!(rt; read_inode(&LARGE_INODE, &[]).is_none());
-    assert!(rt; read_inode(&LARGE_INODE, &turned(LARGE_REST, 511)).is_none());
-    assert!(rt; read_inode(&INODE, &LARGE_REST).is_none());
+    let large = sector_of(&LARGE_INODE);
+    assert!(rt; read_inode(&large, &[]).is_none());
+    assert!(rt; read_inode(&large, &turned([0; 512], 511)).is_none());
+    assert!(rt; read_inode(&INODE, &[0; 512]).is_none());
     assert!(rt; read_inode(&turned(INODE, 159), &[]).is_none());
     assert!(rt; read_inode(&turned(INODE, 103), &[]).is_none());
     assert!(rt; read_inode(&turned(INODE, 511), &[]).is_none());
@@ -60,9 +50,10 @@ fn run_of(first: &[u8; 512], second: &[u8; 512]) -> [u8; 2048] {
 
 #[test]
 fn bytes_of_larger_inodes(rt: HostRuntime) {
-    assert!(rt; read_larger(&run_of(&LARGE_INODE, &LARGE_REST)) == Some(1024));
-    assert!(rt; read_larger(&run_of(&LARGE_INODE, &turned(LARGE_REST, 511))).is_none());
-    assert!(rt; read_larger(&run_of(&INODE, &LARGE_REST)).is_none());
+    let large = sector_of(&LARGE_INODE);
+    assert!(rt; read_larger(&run_of(&large, &[0; 512])) == Some(1024));
+    assert!(rt; read_larger(&run_of(&large, &turned([0; 512], 511))).is_none());
+    assert!(rt; read_larger(&run_of(&INODE, &[0; 512])).is_none());
     assert!(rt; read_larger(&LARGEST_INODE) == Some(2048));
     let mut other = LARGEST_INODE;
     other[2047] ^= 1;
@@ -71,11 +62,12 @@ fn bytes_of_larger_inodes(rt: HostRuntime) {
 
 #[test]
 fn first_sectors_of_inodes(rt: HostRuntime) {
+    let large = sector_of(&LARGE_INODE);
     assert!(rt; read_start(&INODE) == numbered(655_488));
-    assert!(rt; read_start(&LARGE_INODE) == numbered(328_064));
-    assert!(rt; read_start(&turned(LARGE_INODE, 511)) == numbered(328_064));
+    assert!(rt; read_start(&large) == numbered(328_064));
+    assert!(rt; read_start(&turned(large, 511)) == numbered(328_064));
     assert!(rt; read_start(&turned(INODE, 4)).is_none() && read_start(&turned(INODE, 0)).is_none());
-    assert!(rt; read_start(&LARGE_REST).is_none() && read_start(&SUPER).is_none());
+    assert!(rt; read_start(&[0; 512]).is_none() && read_start(&SUPER).is_none());
 }
 
 #[test]
@@ -101,14 +93,14 @@ fn places_in_wide_sectors_and_of_large_inodes(rt: HostRuntime) {
         }
         None => assert!(rt; false, "no superblock"),
     }
-    match read_inodes(&LARGE_SUPER) {
+    match read_inodes(&sector_of(&LARGE_SUPER)) {
         Some(inodes) => {
             assert!(rt; inodes.inode == 1024 && inodes.inode_sector(328_064) == Some(541_440));
             assert!(rt; inodes.is_mark(328_064) && !inodes.is_mark(328_096));
         }
         None => assert!(rt; false, "no superblock"),
     }
-    match read_inodes(&LARGEST_SUPER) {
+    match read_inodes(&sector_of(&LARGEST_SUPER)) {
         Some(inodes) => {
             assert!(rt; inodes.inode == 2048 && inodes.inode_sector(163_904) == Some(540_928));
             assert!(rt; inodes.is_mark(163_904) && !inodes.is_mark(163_920));

@@ -1,5 +1,5 @@
 //! Objects that the tests of several crates take: a gate at which pieces of a scan meet, images that count what is read of
-//! them, and images of which some sectors cannot be read.
+//! them, images of which some sectors cannot be read, and sectors of XFS.
 //!
 //! They stand here, below the crates of tests, so that each is written once.
 #![tactic(auto)]
@@ -7,7 +7,9 @@
 mod counted;
 mod holed;
 mod meeting;
+mod xfs_sectors;
 
 pub use counted::Counted;
 pub use holed::Holed;
 pub use meeting::Meeting;
+pub use xfs_sectors::{LARGE_INODE, LARGE_SUPER, LARGEST_SUPER};

@@ -1,6 +1,7 @@
 #!/usr/bin/env python3
-"""Runs the gate, and prints the minutes of the clock that it took, the minutes of the processors by proofs, tests and edits, and a
-table of the crates by them. It looks at the prover's processes each half second, so what runs shorter is not seen.
+"""Runs the gate, and prints the minutes of the clock that it took, the minutes of the processors by proofs, tests, edits and what
+these begin with (a crate of several edits is proved once more for them), and a table of the crates by them. It looks at the prover's
+processes each half second, so what runs shorter is not seen.
 
 What earlier runs proved is kept by the kit and not proved again: for the times from nothing move what is kept away first. Nothing
 else should run.
@@ -16,7 +17,15 @@ import sys
 import time
 
 TICKS = os.sysconf("SC_CLK_TCK")
-KINDS = ("proof", "tests", "edits")
+KINDS = ("proof", "tests", "again", "edits")
+
+
+def kind_of(words, folder):
+    """What a process of these words in this folder is for: the copies that edits change stand in folders of their own, and their
+    beginning in one that is named seed."""
+    if "rt-edit" in folder:
+        return "again" if any(word.endswith("/seed") for word in words) else "edits"
+    return "tests" if "--test" in words else "proof"
 
 
 def processes():
@@ -29,7 +38,7 @@ def processes():
             if os.path.basename(words[0]) != "rattle" or "--crate-name" not in words:
                 continue
             fields = (entry / "stat").read_text().rsplit(")", 1)[1].split()
-            kind = "edits" if "rt-edit" in os.readlink(entry / "cwd") else "tests" if "--test" in words else "proof"
+            kind = kind_of(words, os.readlink(entry / "cwd"))
         except OSError:
             continue
         name = words[words.index("--crate-name") + 1]
@@ -49,7 +58,7 @@ def main():
         sums[name][kind] += seconds
     print(f"\n{clock / 60:.1f} minutes of the clock; of the processors: "
           + ", ".join(f"{kind} {sum(crate[kind] for crate in sums.values()) / 60:.1f}" for kind in KINDS))
-    print("\n| crate | proof, s | tests, s | edits, s |\n|---|---|---|---|")
+    print("\n| crate | proof, s | tests, s | again for edits, s | edits, s |\n|---|---|---|---|---|")
     for name, crate in sorted(sums.items(), key=lambda item: -sum(item[1].values())):
         print(f"| `{name}` | {' | '.join(f'{crate[kind]:.0f}' for kind in KINDS)} |")
     return run.returncode

@@ -77,6 +77,26 @@ class Named(unittest.TestCase):
             self.assertEqual(f"  {words.ALONE}" in report.text.splitlines(), told)
             self.assertIn("in no slot: i1", report.text)
 
+    def test_what_to_type_where_texts_count_as_unread(self) -> None:
+        """The maps are typed too, those beside the images without their comments, unless they are long, or the set has copies."""
+        it, seen = candidate("5:ls:none:128:2048:2,0,1", whole()), images(9000, 9000, 9000)
+        beside = Map("m", "# comment 100%\n0x0 +\n0x0 0x400 +\n", ((0, 1024, "+"),))
+        seen[0], seen[2] = dataclasses.replace(seen[0], fill=Map("", "", ((0, 512, "+"), (512, 512, "-")))), dataclasses.replace(seen[2], map=beside)
+        server = "nbdfuse -r class4/volume --command reraid-nbd set=5:ls:none:128:2048:2,0,1 maps=class4.maps -- i0 i1 i2 &"
+        self.assertEqual(words.commands(4, it, seen)[:3],
+                         ["printf 'map 0\\n0 +\\n0 512 +\\n512 512 -\\nmap 2\\n0 +\\n0 1024 +\\n' > class4.maps", "mkdir class4", server])
+        self.assertEqual(words.of_maps(it.word, seen, True), ["  (what counts as unread is found by parity there, and what is lost cannot be read)"])
+        report = Told()
+        words.say_class(report, 4, it, seen)
+        self.assertEqual(report.text.splitlines()[-1], words.of_maps(it.word, seen, True)[0])
+        for other, changed in ((it, [dataclasses.replace(seen[0], map=beside), *seen[1:]]), (candidate("5:ls:none:128:2048:2,-,1", whole()), seen),
+                               (it, [dataclasses.replace(seen[0], fill=Map("", "", ((0, 512, "-"),) * 500)), *seen[1:]]),
+                               (candidate("near2:128:2048:0,1,2,-", whole()), seen)):
+            self.assertEqual(words.commands(4, other, changed)[0].split()[0], "reraid-mount", other.word)
+        self.assertIn("which --json prints of each", words.of_maps(it.word, seen)[0])
+        self.assertEqual(words.of_maps(read_word("near2:128:2048:0,1"), seen[:2]), ["  (this shows what an image has where it counts as unread)"])
+        self.assertEqual(words.of_maps(it.word, seen[1:2]), [])
+
 
 class Read(InFolder):
     """The volume that is looked at is that of the line to type."""

@@ -134,7 +134,7 @@ class Casefile:
             strip = read_wholly.get(image.number) or looked_at(image, cell, small)
             if strip:
                 self.report.tell("strip", image=image.number, cell=strip.cell, filled=strip.filled, looks=strip.looks,
-                                 unread=unread(image.map, image.sectors))
+                                 unread=unread(image.unread, image.sectors))
 
     def relations(self, images: Sequence[Image]) -> None:
         """How the images depend on one another, row by row; nothing where that is not to be had."""

@@ -34,7 +34,7 @@ WHOLE = "M0 0h22v14h-22z"
 # The line behind which what is to be typed stands.
 TYPED = "to look into it, as root:"
 # The events that say what was taken from the images, and those that say what was not tried or not to its end.
-SAID = ("resume", "taken over", "place", "relation", "metadata", "copies", "unlike", "reason", "group", "hint", "pairs")
+SAID = ("resume", "taken over", "fill", "place", "relation", "metadata", "copies", "unlike", "reason", "group", "hint", "pairs")
 LEFT = ("not tried", "late", "failed", "many", "put off", "doubtful", "begins")
 TRIALS = (("trial", True), ("what", False), ("why", False), ("loosened", False), ("sets", True), ("outcome", False))
 CANDIDATES = (("class", True), ("sign", False), ("set", False), ("loosened", False), ("rows and marks", False), ("in its volume", False))

@@ -28,7 +28,7 @@ class Members:
     @property
     def maps(self) -> str | None:
         """Their maps, as `salvage` reads them; None where there are none."""
-        return maps.maps_text([image.map for image in self.images])
+        return maps.maps_text([image.unread for image in self.images])
 
 
 def named(word: Word, images: Sequence[Image]) -> Members:

@@ -10,7 +10,7 @@ from ..calls.program import Program
 from ..calls.sets import Word
 from ..errors import said
 from ..evidence import heads, maps
-from ..evidence.images import Image
+from ..evidence.images import Image, unread_by
 from ..options import Options
 from ..report.report import Report
 from ..units import SECTOR, counted, percent
@@ -67,7 +67,7 @@ class Tests:
         self.program = Program(commands, self.names, options.seconds, options.jobs)
         self.images = tuple(images)
         self.checks = Checkers(commands, room, options.seconds, options.first)
-        self.maps = maps.maps_text([image.map for image in images])
+        self.maps = maps.maps_text([image.unread for image in images])
         self.looks = Looks(memory, self.maps, self.checks.there, options.seconds, options.first)
         self.put_off: list[Candidate] = []
         self.told: set[str] = set()
@@ -165,7 +165,8 @@ class Tests:
         told = program.lost(members.word.text, members.end, members.maps)
         if told is None:
             return ["how much the maps leave lost is not known"]
-        return [f"{told[0]} of {counted(told[1], 'sector')} ({percent(*told)}) lost by the maps" if told[0] else "nothing lost by the maps"]
+        by = unread_by(members.images)
+        return [f"{told[0]} of {counted(told[1], 'sector')} ({percent(*told)}) lost by {by}" if told[0] else f"nothing lost by {by}"]
 
     def tell(self, it: Candidate) -> None:
         """Says of a candidate that a checker is content with it, once."""

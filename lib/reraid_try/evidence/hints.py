@@ -12,7 +12,7 @@ from ..errors import OutsideError, said
 from ..units import LARGE_BLOCK, MIB, SECTOR, counted
 from . import bcache, tables
 from .heads import Head
-from .images import Image
+from .images import Image, unread_by
 
 # Offsets of mdadm, and of controllers that keep nothing before the data.
 USUAL_OFFSETS = (0, 2048, 262144, 264192)
@@ -305,9 +305,9 @@ def logical(plan: Plan, images: Mapping[int, Image]) -> list[Hint]:
 
 
 def bad_rows(images: Sequence[Image], end: int) -> list[Hint]:
-    """How many sectors of the images before an end their maps call unread."""
-    total = sum(image.map.unread(end) for image in images if image.map)
-    return [Hint(What.BAD_ROWS, total, Source.MAPS, "the maps")] if total else []
+    """How many sectors of the images before an end count as unread."""
+    total = sum(image.unread.unread(end) for image in images if image.unread)
+    return [Hint(What.BAD_ROWS, total, Source.MAPS, unread_by(images))] if total else []
 
 
 def own_offsets(images: Sequence[Image], most: int) -> list[Hint]:

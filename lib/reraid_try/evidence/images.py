@@ -3,7 +3,7 @@
 import dataclasses
 import os
 import stat
-from collections.abc import Sequence
+from collections.abc import Iterable, Sequence
 from typing import Any, BinaryIO
 
 from ..errors import OutsideError, said
@@ -23,7 +23,8 @@ SAMPLES = 64
 @dataclasses.dataclass(frozen=True)
 class Image:
     """An image as it was seen: its name and number, its sectors and the bytes behind them, the table that it begins with, its first and last
-    sector that is not zeros, the image that it is the same as, its map, the heads on it, and the container in which it is, where it is in one."""
+    sector that is not zeros, the image that it is the same as, its map, the heads on it, the container in which it is, where it is in one, and the
+    map of the texts that stand in it in place of what could not be read, where it has none beside it."""
 
     name: str
     number: int
@@ -36,6 +37,12 @@ class Image:
     map: Map | None = None
     heads: tuple[Head, ...] = ()
     opened: Opened | None = None
+    fill: Map | None = None
+
+    @property
+    def unread(self) -> Map | None:
+        """The map of what was not read of it; None where all was, as far as is known."""
+        return self.map or self.fill
 
     @property
     def called(self) -> str:
@@ -65,6 +72,12 @@ class Image:
         return {"name": self.called, "container": container, "number": self.number, "sectors": self.sectors, "rest": self.rest,
                 "table": self.table.kind, "own": self.table.own, "partitions": partitions, "first": self.first, "last": self.last,
                 "like": self.like, "map": self.map.name if self.map else None}
+
+
+def unread_by(images: Iterable[Image]) -> str:
+    """By what sectors count as unread of images of which some do, as it is said."""
+    there = {image.map is not None for image in images if image.unread} or {True}
+    return " and ".join(["the maps"] * (True in there) + ["the texts that count as unread"] * (False in there))
 
 
 def is_image(name: str) -> bool:

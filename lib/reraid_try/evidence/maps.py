@@ -20,6 +20,11 @@ class Map:
     text: str
     blocks: tuple[tuple[int, int, str], ...]
 
+    @property
+    def plain(self) -> str:
+        """The same map without its comments."""
+        return f"0 {READ}\n" + "".join(f"{first} {count} {status}\n" for first, count, status in self.blocks)
+
     def not_read(self, end: int) -> Iterator[tuple[int, int]]:
         """Where each block begins, and how many bytes it has before an end in sectors, that was not read; of what lies in no block nothing was."""
         last = sum(self.blocks[-1][:2]) if self.blocks else 0

@@ -292,7 +292,7 @@ class Evident:
         """The runs of rows in which maps call a sector of the images of an aim unread."""
         for number, moved in itertools.zip_longest(aim.images, aim.moved, fillvalue=0):
             image = self.search.images[number]
-            for gap in image.map.gaps(image.sectors) if image.map else ():
+            for gap in image.unread.gaps(image.sectors) if image.unread else ():
                 yield range(max(0, gap.start - moved), max(0, gap.stop - moved))
 
     def by_places(self, hunt: Hunt, aim: Aim) -> bool:

@@ -4,6 +4,7 @@ from ..calls.sets import LEVELS
 from ..calls.surveys import Request
 from ..evidence import hints
 from ..evidence.gathered import Evidence
+from ..evidence.images import unread_by
 from ..options import Options
 from ..units import listed
 from . import cures
@@ -70,7 +71,8 @@ class Asking:
         """What is loosened by the rows that maps call unread; nothing where the request has none of them, or more."""
         unread = self.evidence.unread
         asked = shape.parity and request.number("badrows") == unread if request else shape.levels == "10"
-        return (cures.told(f"badrows {unread} from the maps", Family.UNREAD),) if unread and asked else ()
+        told = f"badrows {unread} from {unread_by(self.evidence.images)}"
+        return (cures.told(told, Family.UNREAD),) if unread and asked else ()
 
     def cures(self, shape: Shape, every: bool = False, quick: bool = False) -> list[Cure]:
         """What may be loosened for a shape, in order; where not every one is asked for, without what is mostly wrong. Quick ones have nothing

@@ -17,9 +17,11 @@ from ..checks.tests import Tests
 from ..checks.verdicts import Score
 from ..checks.volumes import Room
 from ..errors import Refused, Stopped
+from ..evidence import fills
 from ..evidence import images as seen
 from ..evidence.families import Reshape
 from ..evidence.images import Image
+from ..evidence.ties import Ties
 from ..options import Options
 from ..report import words
 from ..report.diagnosis import Diagnosis
@@ -45,9 +47,9 @@ MOST_THRICE = 2
 
 class Search:
     """One run: what is seen, what is tried, and the candidates. `hunt` is that over all images, `hunts` are all that were begun, `shapes_tried` of
-    which shapes there were trials, `stale` the images that ties name as old, `reshapes` where ties change for good, `why` for what reason the next
-    trials are; `solved` says that a candidate says enough of what evidence gave a reason for, so that there is no hunt over all images; `memory`
-    keeps what is found in volumes, where another run may go on with it."""
+    which shapes there were trials, `stale` the images that ties name as old, `reshapes` where ties change for good, `said_fills` the lines on texts
+    in images, `why` for what reason the next trials are; `solved` says that a candidate says enough of what evidence gave a reason for, so that there
+    is no hunt over all images; `memory` keeps what is found in volumes, where another run may go on with it."""
 
     tests: Tests
     hunt: Hunt
@@ -62,6 +64,7 @@ class Search:
         self.shapes_tried: set[str] = set()
         self.stale: set[int] = set()
         self.reshapes: list[Reshape] = []
+        self.said_fills: set[str] = set()
         self.why = ""
 
     def run(self) -> None:
@@ -116,6 +119,7 @@ class Search:
         """Looks, tries what the images themselves give a reason for, and then surveys and tries all else, in as much of the images as is to be read;
         without landmarks all is read at once, where it may be."""
         self.look()
+        self.look_for_fills()
         self.tests = Tests(self.options, self.commands, self.report, self.room, self.images, self.memory)
         evident = Evident(self)
         self.solved = evident.run()
@@ -144,6 +148,16 @@ class Search:
         self.report.total = total
         part = "all" if total == sum(image.sectors * SECTOR for image in self.images) else "the first part"
         self.report.say("reads", f"reads {part} of the images: {total // MIB} MiB", bytes=total)
+
+    def look_for_fills(self) -> None:
+        """The texts that stand in images in place of what could not be read, a line each that was not printed before; they count as unread."""
+        self.report.bar.show("looks for texts in place of what could not be read")
+        found = fills.told(Ties(self.commands, self.images, self.options.seconds), self.images, self.options.first)
+        self.images = fills.counted_unread(self.images, found)
+        for it in found:
+            if it.line() not in self.said_fills:
+                self.said_fills.add(it.line())
+                self.report.say("fill", it.line(), **it.fields())
 
     def say_evidence(self, hunt: Hunt) -> None:
         """The landmarks and the hints of a hunt."""

@@ -1,6 +1,7 @@
 """What a candidate is in words, and what to type next: the end of a run, for the classes of which most is known."""
 
 import collections
+import dataclasses
 import os
 import shlex
 from collections.abc import Sequence
@@ -8,9 +9,10 @@ from collections.abc import Sequence
 from ..calls.sets import LAST_Q, Word
 from ..checks import kin
 from ..checks.candidates import Candidate
-from ..checks.members import named
+from ..checks.members import Members, named
 from ..checks.verdicts import Finding, Score, Verdict
 from ..evidence.images import Image
+from ..evidence.maps import maps_text
 from ..units import SECTOR
 from .report import Report
 
@@ -19,6 +21,8 @@ PATTERNS = {"la": "left-asymmetric", "ra": "right-asymmetric", "ls": "left-symme
             "parity-last": "parity last", "n-restart": "N restart", "n-continue": "N continue"}
 ORDERS = {"by-data": "Q by the number of the data", "by-slot": "Q by slot"}
 LVM = "LVM2_member"
+# So many characters of maps are typed at most.
+MOST_TYPED = 4000
 ALONE = "(the images in slots alone are named, with numbers of their own: a volume ends where the shortest named image does, and another is shorter)"
 NUMBERS = {1: "one", 2: "two", 3: "three", 4: "four"}
 
@@ -139,8 +143,11 @@ def commands(number: int, it: Candidate, images: Sequence[Image]) -> list[str]:
     folder, length = f"class{number}", it.word.sectors(it.end or members.end) * SECTOR
     names = [image.opened.typed if image.opened else image.name for image in members.images]
     lines = [line for image in members.images if image.opened for line in image.opened.lines]
-    if it.end:
-        server = ["reraid-nbd", f"set={members.word.text}", f"end={it.end}", "--", *names]
+    maps = typed_maps(members)
+    if it.end or maps:
+        server = ["reraid-nbd", f"set={members.word.text}", *([f"maps={folder}.maps"] if maps else []), *([f"end={it.end}"] if it.end else []),
+                  "--", *names]
+        lines += [f"printf '{maps}' > {folder}.maps"] if maps else []
         lines += [f"mkdir {folder}", shlex.join(["nbdfuse", "-r", f"{folder}/volume", "--command", *server]) + " &"]
     else:
         lines.append(shlex.join(["reraid-mount", members.word.text, folder, *names]))
@@ -149,6 +156,16 @@ def commands(number: int, it: Candidate, images: Sequence[Image]) -> list[str]:
         lines += [f"cp --sparse=always {path} {folder}.img", f"truncate -s {length + lacks} {folder}.img"]
         path = f"{folder}.img"
     return lines + mounts(it.found, path, length + lacks)
+
+
+def typed_maps(members: Members) -> str:
+    """All maps of the images of a set as `printf` takes them, where a text counts as unread of which no file has a map; nothing where there is none,
+    where they are too long to be typed, or for a mirror, which is read without maps."""
+    if members.word.is_mirrored or not any(it.fill and not it.map for slot, it in enumerate(members.images) if slot in members.word.slots):
+        return ""
+    plain = [dataclasses.replace(image.unread, text=image.unread.plain) if image.unread else None for image in members.images]
+    text = (maps_text(plain) or "").replace("\n", "\\n")
+    return text if len(text) <= MOST_TYPED else ""
 
 
 def best(order: Sequence[Candidate]) -> list[tuple[int, Candidate]]:
@@ -168,17 +185,23 @@ def lines_of(number: int, it: Candidate, images: Sequence[Image], said: str, typ
     lines += [f"  {it.alike_said}"] if it.alike_said else []
     lines += [f"  {text}" for text in (*it.old, *twins(it.word, images), kin.text(it)) if text]
     lines += ["  to look into it, as root:", *("    " + line for line in typed)]
-    lines += [f"  {ALONE}"] * (named(it.word, images).word != it.word)
-    return lines + of_maps(it.word, [images[slot] for slot in it.word.images])
+    members = named(it.word, images)
+    lines += [f"  {ALONE}"] * (members.word != it.word)
+    return lines + of_maps(it.word, [images[slot] for slot in it.word.images], bool(typed_maps(members)))
 
 
-def of_maps(word: Word, images: Sequence[Image]) -> list[str]:
-    """What a mount of the set shows where a map of its images says unread. It takes the maps that lie beside the names that are typed."""
-    damaged = [image for image in images if image.map]
+def of_maps(word: Word, images: Sequence[Image], typed: bool = False) -> list[str]:
+    """What a mount of the set shows where sectors of its images count as unread. It takes the maps that lie beside the names that are typed, or those
+    that are `typed` themselves."""
+    damaged = [image for image in images if image.unread]
     if not damaged:
         return []
     if word.is_mirrored:
-        return ["  (this shows what an image has where its map says unread)"]
+        return [f"  (this shows what an image has where {'its map says' if any(image.map for image in damaged) else 'it counts as'} unread)"]
+    if typed:
+        return ["  (what counts as unread is found by parity there, and what is lost cannot be read)"]
+    if any(not image.map for image in damaged):
+        return ["  (this shows the texts that count as unread: put the map of each image, which --json prints of each in the event fill, beside it)"]
     if any(image.opened for image in damaged):
         return ["  (this shows zeros where the map of a container says unread; reraid salvage finds what parity has of it)"]
     return ["  (what the maps beside the images call unread is found by parity there, and what is lost cannot be read)"]

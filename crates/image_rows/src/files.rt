@@ -32,8 +32,8 @@ fn write_files(rt: &HostRuntime) -> Result<(), Fail> {
 
 // The sectors of a file that is attached, if it is.
 fn attached(images: &mut FileImages<HostRuntime>, name: &str) -> Option<u64>
-    requires { length images.old.lengths < 3 }
-    ensures { length images.new.lengths ≤ length images.old.lengths + 1 }
+    requires { length images.old.files.lengths < 3 }
+    ensures { length images.new.files.lengths ≤ length images.old.files.lengths + 1 }
 {
     images.attach(name).ok()
 }

@@ -1,6 +1,7 @@
 -- The rows of a set over a block of image sectors.
-use Rattle.std.proofs.Common.{◌≡◌, ℕ, ◌+◌, ◌*◌, ◌<◌, ◌≤◌, Bool, true, false, not, cond, List, length, get_or, take, refl, sym, ap, ◌∙◌, arith, add-one, Option, Some, None, IfSome, Fits, w8, subst}
-use Rattle.std.proofs.lemmas.List.{get_or-take}
+use Rattle.std.proofs.Common.{◌≡◌, ℕ, ◌+◌, ◌*◌, ◌<◌, ◌≤◌, Bool, true, false, not, cond, List, length, get_or, take, drop, ◌-◌, refl, sym, ap, ◌∙◌, arith, add-one, Option, Some, None, IfSome, Fits, w8, subst}
+use Rattle.std.proofs.lemmas.List.{get_or-drop, get_or-take}
+use Rattle.std.specs.Prelude.{slice_range}
 use Rattle.std.specs.Option.{is_none}
 use Rattle.raid_params.specs.declared.types.Cell.{Cell}
 use Rattle.raid_params.specs.declared.types.Geometry.{Geometry}
@@ -39,13 +40,14 @@ copied_sound geo room row place at cells copied are =
     (λ i within there. let here : 0 + i ≡ i = omega arith in rw here (copied_held geo room row place i x (get_or geo.slots.items i None) copied within inside refl there)))
     ∙ ap (λ (cs : List Cell). is_sound cs (slots_column room geo.slots.items place)) (sym are)
 
--- its sectors are bytes
-pub copied_bytes : (geo : Geometry) (room : Room) (row : List ℕ) (place : ℕ) → IsCopied geo room place (length geo.slots.items) row → HasBytes row → AreBytesAt room geo.slots.items place
-copied_bytes geo room row place copied bytes = λ slot image x within is inside.
-    subst (λ (b : ℕ). b < 256) (copied slot image x within is inside) (byte (get_or row (512 * slot + x) 0) (bytes (512 * slot + x)))
-  where
-    byte : (b : ℕ) → Fits w8 b → b < 256
-    byte b h = omega arith
+-- a byte of a region
+pub region_byte : (room : Room) (region : List ℕ) (image place x : ℕ) → region ≡ slice_range room.bytes (room.stride * image + 512 * place) (room.stride * image + 512 * place + 512 * 1) → x < 512 →
+    get_or region x 0 ≡ room_byte room (512 * place + x) image
+region_byte room region image place x is below =
+    let from = room.stride * image + 512 * place in
+    let at : from + x ≡ room.stride * image + (512 * place + x) = omega arith in
+    ap (λ (xs : List ℕ). get_or xs x 0) is ∙ get_or-take (from + 512 * 1 - from) (drop from room.bytes) x 0 (omega arith) ∙ get_or-drop from room.bytes x 0
+    ∙ ap (λ (k : ℕ). get_or room.bytes k 0) at
 
 -- one more row
 pub unsound_next : (images : List (List ℕ)) (geo : Geometry) (t : ℕ) → unsound_rows images geo (t + 1) ≡ unsound_rows images geo t + cond (not (is_sound_row images geo t)) 1 0
@@ -86,15 +88,15 @@ held_sound geo room row place at cells same held copied are alike is =
 decided : (cells : List Cell) (slots : List (Option ℕ)) (asked : Option (List ℕ)) (factors : List ℕ) → IfSome asked (DecideRow cells slots) → asked ≡ Some factors → DecideRow cells slots factors
 decided cells slots asked factors decides is = subst (λ (o : Option (List ℕ)). IfSome o (DecideRow cells slots)) is decides
 
-pub told_sound : (geo : Geometry) (room : Room) (row : List ℕ) (place : ℕ) (cells : List Cell) (asked : Option (List ℕ)) (factors : List ℕ) (told : Option Bool) (sound : Bool) →
-    IsCopied geo room place (length geo.slots.items) row → HasBytes row → IfSome asked (DecideRow cells geo.slots.items) → asked ≡ Some factors →
-    IfSome told (λ met. Decides met (IsMet room place factors)) → told ≡ Some sound → sound ≡ is_sound cells (slots_column room geo.slots.items place)
-told_sound geo room row place cells asked factors told sound copied bytes decides is said there =
-    same_from_decides sound (is_sound cells (slots_column room geo.slots.items place)) (subst (λ (o : Option Bool). IfSome o (λ met. Decides met (IsMet room place factors))) there said)
-    (decided cells geo.slots.items asked factors decides is room place (copied_bytes geo room row place copied bytes))
+pub told_sound : (room : Room) (slots : List (Option ℕ)) (place : ℕ) (cells : List Cell) (asked : Option (List ℕ)) (factors : List ℕ) (told : Option Bool) (sound : Bool) →
+    AreBytesAt room slots place → IfSome asked (DecideRow cells slots) → asked ≡ Some factors →
+    IfSome told (λ met. Decides met (IsMet room place factors)) → told ≡ Some sound → sound ≡ is_sound cells (slots_column room slots place)
+told_sound room slots place cells asked factors told sound bytes decides is said there =
+    same_from_decides sound (is_sound cells (slots_column room slots place)) (subst (λ (o : Option Bool). IfSome o (λ met. Decides met (IsMet room place factors))) there said)
+    (decided cells slots asked factors decides is room place bytes)
 
-pub tested_met : (geo : Geometry) (room : Room) (row : List ℕ) (place : ℕ) (cells : List Cell) (asked : Option (List ℕ)) (factors : List ℕ) (sound : Bool) →
-    IsCopied geo room place (length geo.slots.items) row → HasBytes row → IfSome asked (DecideRow cells geo.slots.items) → asked ≡ Some factors →
-    sound ≡ is_sound cells (slots_column room geo.slots.items place) → Decides sound (IsMet room place factors)
-tested_met geo room row place cells asked factors sound copied bytes decides is holds =
-    subst (λ (b : Bool). Decides b (IsMet room place factors)) (sym holds) (decided cells geo.slots.items asked factors decides is room place (copied_bytes geo room row place copied bytes))
+pub tested_met : (room : Room) (slots : List (Option ℕ)) (place : ℕ) (cells : List Cell) (asked : Option (List ℕ)) (factors : List ℕ) (sound : Bool) →
+    AreBytesAt room slots place → IfSome asked (DecideRow cells slots) → asked ≡ Some factors →
+    sound ≡ is_sound cells (slots_column room slots place) → Decides sound (IsMet room place factors)
+tested_met room slots place cells asked factors sound bytes decides is holds =
+    subst (λ (b : Bool). Decides b (IsMet room place factors)) (sym holds) (decided cells slots asked factors decides is room place bytes)

@@ -5,8 +5,9 @@ ghost use Rattle.raid_terms.specs.Parity.{has_q as has_q_of, is_sound, is_sound_
 ghost use Rattle.raid_params.specs.declared.limits.TheConstants.{MOST};
 ghost use Rattle.member_regions.specs.Members.{IsTestable};
 ghost use Rattle.member_regions.specs.declared.regions.TheConstants.{BLOCK};
+ghost use Rattle.member_regions.specs.ImageSums.{room_byte};
 ghost use Rattle.member_regions.specs.Regions.{IsRoomFor, Room};
-ghost use Rattle.parity_scan.specs.Equations.{AreKnown, DecideRow};
+ghost use Rattle.parity_scan.specs.Equations.{AreBytesAt, AreKnown, DecideRow};
 ghost use Rattle.parity_scan.specs.ImageRows.{asks as asks_for, rows_of as tested, rows_before as tested_before, AddsRun, HoldsSet, IsLeftAfter};
 ghost use Rattle.parity_scan.specs.ChunkRows.{IsChunkRow};
 ghost use Rattle.parity_scan.specs.ImageSums.{AreImageSums, slots_column};
@@ -215,19 +216,67 @@ fn is_row_sound(
     ensures known { AreKnown regions.now known.new }
     ensures room { length room.new ≡ ROW }
 {
-    let cells: &[Cell] = &row.cells;
-    copy_row(geo, regions, place, room);
-    let sectors = &room[..SECTOR * cells.len()];
     let Some(factors) = &row.factors else {
-        return row_holds(cells, sectors);
+        return is_tested_sound(geo, row, regions, place, room);
     };
+    are_bytes(geo, regions, place);
     if let Some(sound) = known.told(factors, place) {
         return sound;
     }
-    let sound = row_holds(cells, sectors);
+    let sound = is_tested_sound(geo, row, regions, place, room);
     known.note(factors, place, sound);
     sound
 }
+
+/// Whether the sectors number `place` of the regions of a set's images are a sound row, by a test of them. `room` is room for
+/// them.
+#[tactic(auto, using(member_regions::proofs::Sets::row_length, member_regions::proofs::Sets::testable_row))]
+fn is_tested_sound(
+    geo: &Geometry,
+    row: &ChunkRow,
+    regions: &Regions,
+    place: usize,
+    room: &mut [u8],
+) -> bool
+    requires set { IsTestable geo.now }
+    requires cells { row.now.cells.items ≡ cells_of_row geo.now row.now.at }
+    requires images { All (λ slot. IfSome slot (λ image. image < regions.now.members)) geo.now.slots.items }
+    requires place { 512 * place + 512 ≤ regions.now.stride }
+    requires room { length room.old ≡ ROW }
+    ensures sound { result ≡ is_sound row.now.cells.items (slots_column regions.now geo.now.slots.items place) }
+    ensures room { length room.new ≡ ROW }
+{
+    let cells: &[Cell] = &row.cells;
+    copy_row(geo, regions, place, room);
+    row_holds(cells, &room[..SECTOR * cells.len()])
+}
+
+/// The sectors number `place` of the images of a set are bytes, which is what an equation speaks of: it says so, and does nothing.
+fn are_bytes(geo: &Geometry, regions: &Regions, place: usize)
+    requires images { All (λ slot. IfSome slot (λ image. image < regions.now.members)) geo.now.slots.items }
+    requires place { 512 * place + 512 ≤ regions.now.stride }
+    ensures { AreBytesAt regions.now geo.now.slots.items place }
+{
+    for (slot, held) in geo.slots.iter().enumerate() {
+        if let Some(image) = *held {
+            is_of_bytes(regions, image as usize, place);
+        }
+    }
+}
+
+/// A sector of an image is bytes.
+fn is_of_bytes(regions: &Regions, image: usize, place: usize)
+    requires image { image < regions.now.members }
+    requires place { 512 * place + 512 ≤ regions.now.stride }
+    ensures { (x : ℕ) → x < 512 → room_byte regions.now (512 * place + x) image < 256 }
+{
+    are_below_256(regions.region(image, place, 1));
+}
+
+/// Bytes are below 256.
+fn are_below_256(bytes: &[u8])
+    ensures { (x : ℕ) → slice_index bytes.now x < 256 }
+{}
 
 /// Copies the sectors number `place` of the images of a set into a row, that of each slot to its place.
 fn copy_row(geo: &Geometry, regions: &Regions, place: usize, row: &mut [u8])

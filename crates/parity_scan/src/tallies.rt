@@ -74,13 +74,19 @@ fn open_count(tallies: &[Tally]) -> usize
     tallies.iter().filter(|tally| tally.is_open()).count()
 }
 
+/// As many open tallies make it worth its cost to keep what is known of rows: of fewer than two none can be alike, and of many that
+/// are not each would undo what the one before it left.
+const LEAST_ALIKE: usize = 2;
+
+const MOST_ALIKE: usize = 64;
+
 /// What is known of rows before any is tested: nothing. It is kept where a few tallies are open, of which some may be of sets that
 /// are alike.
 fn no_rows(tallies: &[Tally]) -> KnownRows
     ensures { (room : Room) → AreKnown room result }
 {
     let open = open_count(tallies);
-    KnownRows::none(2 <= open && open < MANY)
+    KnownRows::none(LEAST_ALIKE <= open && open <= MOST_ALIKE)
 }
 
 /// The sums of the images at the places of a run where many tallies are open, and else none.

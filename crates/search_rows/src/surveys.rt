@@ -4,7 +4,7 @@ ghost use Rattle.image_source.specs.Memory.{seen_of};
 ghost use Rattle.survey_engine.specs.Surveys.{IsAsk};
 
 use crate::objects::four_images;
-use crate::xfs_sectors::{LARGE, LARGE_SUPER, LARGEST, LARGEST_SUPER, LATER, NEXT, ROOT, SUPER};
+use crate::xfs_sectors::{LARGEST, LATER, NEXT, ROOT, SUPER};
 use arrayvec::ArrayVec;
 use image_source::MemImages;
 use landmark_rules::{GroupKind, Kind, Mark, MarkTests, Rule};
@@ -14,6 +14,7 @@ use search_plan::{DropAt, Kinds, Limits, Plan};
 use std::process::Abort;
 use std::test::Fail;
 use survey_engine::{Ask, SurveyFault, survey};
+use test_objects::{LARGE_INODE, LARGE_SUPER, LARGEST_SUPER};
 
 // MyLBA 1, AlternateLBA 127, the entries from block 2 on, 128 of 128 bytes.
 const HEADER: [u8; 92] = [
@@ -659,7 +660,7 @@ fn other_inodes_are_no_marks(rt: HostRuntime) -> Result<(), Fail> {
 
 const LARGE_SUPER_AT_9: (usize, &[Field]) = (9, &[(0, &LARGE_SUPER)]);
 
-const LARGE_INODE: &[Field] = &[(0, &LARGE)];
+const LARGE: &[Field] = &[(0, &LARGE_INODE)];
 
 // The marks among inodes of XFS beside a superblock of inodes of 1,024 bytes.
 fn has_large_marks<R: Abort + AllocGlobal>(
@@ -679,10 +680,10 @@ fn larger_inodes_of_xfs_are_marks(rt: HostRuntime) -> Result<(), Fail> {
     let byte: &[Field] = &[(511, &[1])];
     let mark = (Kind::Xfs5, 0, 20, Rule::At(541_440));
     let last = (Kind::Xfs5, 0, 396, Rule::At(541_440));
-    assert!(rt; has_large_marks(&rt, [(20, LARGE_INODE), (22, byte)], &[mark])?);
-    assert!(rt; has_large_marks(&rt, [(20, LARGE_INODE), (21, byte)], &[])?);
-    assert!(rt; has_large_marks(&rt, [(396, LARGE_INODE), (8, nothing)], &[last])?);
-    assert!(rt; has_large_marks(&rt, [(397, LARGE_INODE), (8, nothing)], &[])?);
+    assert!(rt; has_large_marks(&rt, [(20, LARGE), (22, byte)], &[mark])?);
+    assert!(rt; has_large_marks(&rt, [(20, LARGE), (21, byte)], &[])?);
+    assert!(rt; has_large_marks(&rt, [(396, LARGE), (8, nothing)], &[last])?);
+    assert!(rt; has_large_marks(&rt, [(397, LARGE), (8, nothing)], &[])?);
     Ok(())
 }
 
@@ -724,7 +725,7 @@ fn inodes_of_another_size_are_no_marks(rt: HostRuntime) -> Result<(), Fail> {
     let small: &[Field] = &[(0, &SUPER), (32, &SECOND)];
     let large: &[Field] = &[(0, &LARGE_SUPER), (32, &FIRST)];
     let largest: &[Field] = &[(0, &LARGEST_SUPER), (32, &FIRST)];
-    assert!(rt; has_marks_beside(&rt, small, LARGE_INODE, &[])?);
+    assert!(rt; has_marks_beside(&rt, small, LARGE, &[])?);
     assert!(rt; has_marks_beside(&rt, large, &[(0, &ROOT)], &[])?);
     assert!(rt; has_marks_beside(&rt, largest, &[(0, &ROOT)], &[])?);
     Ok(())

@@ -397,9 +397,9 @@ def xfs_super(uuid=b"\6" * 16, version=0xB4A5, size=512, features=3, meta=bytes(
     return bytes(block)
 
 
-def printed(name, constant):
-    """Bytes as a table of the crate `inode_rows` has them."""
-    text = (pathlib.Path(__file__).resolve().parents[2] / "crates/inode_rows/src" / f"{name}.rt").read_text(encoding="utf-8")
+def printed(name, constant, crate="inode_rows"):
+    """Bytes as a table of a crate has them."""
+    text = (pathlib.Path(__file__).resolve().parents[2] / "crates" / crate / "src" / f"{name}.rt").read_text(encoding="utf-8")
     table = re.search(rf"pub const {constant}: \[u8; [0-9]+\] = \[(.*?)\];", text, re.DOTALL)[1]
     return bytes.fromhex("".join(re.findall("0x(..)", table)))
 
@@ -465,8 +465,9 @@ def larger_inodes():
     """Inodes of 1,024 and of 2,048 bytes of file systems of other hands, and the places that xfs_db prints."""
     asked = {"levels": 0, "members": 2, "patterns": "plain", "syndromes": "none", "chunks": 1, "offsets": 0}
     words = "survey " + " ".join(f"{name}={value}" for name, value in asked.items()) + " origins=0 kinds=xfs5"
-    large, there = printed("xfs_sectors", "LARGE_SUPER"), printed("xfs_sectors", "LARGE_INODE") + printed("xfs_sectors", "LARGE_REST")
-    largest, most = printed("xfs_sectors", "LARGEST_SUPER"), printed("xfs_sectors", "LARGEST_INODE")
+    # without the zeros at their ends
+    large, start, largest = (printed("xfs_sectors", name, "test_objects") for name in ("LARGE_SUPER", "LARGE_INODE", "LARGEST_SUPER"))
+    there, most = start.ljust(2 * SECTOR, b"\0"), printed("xfs_sectors", "LARGEST_INODE")
     assert [struct.unpack_from(">Q", inode, 152) for inode in (there, most)] == [(328064,), (163904,)]
 
     def seen(groups, *images):

@@ -501,7 +501,7 @@ class Looks(InFolder):
         found = self.checkers(("pvck", put(LVM.replace("stripes = [ \"pv0\", 0 ]", "stripes = [ \"pv0\", 9 ]"))), ("xfs_repair", put("")))
         head = bytes(SECTOR) + b"LABELONE"
         verdict = found.look(self.volume((0, head), (16 + 72, self.xfs(32 * SECTOR))), [], 4096, 8192)
-        self.assertEqual(len(verdict.findings), 1)
+        self.assertEqual([finding.text() for finding in verdict.findings], ["LVM2_member: pvck clean", "logical volume home: xfs: xfs_repair clean"])
         one = LVM.replace('"pv0", 0 ]', '"pv0", 9 ]').replace("extent_count = 1\n", "extent_count = 64\n").replace("segment2", "nothing2")
         found = self.checkers(("pvck", put(one)), ("xfs_repair", put("")))
         verdict = found.look(self.volume((0, head), (16 + 72, self.xfs(64 * 8 * SECTOR))), [], 4096, 8192)

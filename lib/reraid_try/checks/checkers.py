@@ -3,13 +3,13 @@
 import dataclasses
 import os
 import shutil
-from collections.abc import Sequence
+from collections.abc import Callable, Collection, Sequence
 
 from ..calls.commands import Answer, Runner
 from ..evidence import heads, tables, unread
 from ..units import MIB, SECTOR, counted
 from . import lvm, wholes
-from .lvm import Piece
+from .lvm import Physical, Piece
 from .systems import LENGTH_BYTES, SYSTEMS, TOOLS, System, system_of
 from .verdicts import Finding, Score, Verdict
 from .volumes import Region, Room, Volume
@@ -61,28 +61,35 @@ def put_at(path: str, first: int, data: bytes) -> None:
 
 @dataclasses.dataclass
 class Looked:
-    """A volume while it is looked at: its verdict, the regions that are still to be looked at, and the first bytes of those that were."""
+    """A volume while it is looked at: its verdict, the regions that are still to be looked at, and the files and first bytes of those that were."""
 
     volume: Volume
     verdict: Verdict
     todo: list[Region]
-    seen: set[int] = dataclasses.field(default_factory=set)
+    seen: set[tuple[str, int]] = dataclasses.field(default_factory=set)
+
+
+def no_others(_: Collection[str]) -> Sequence[Physical]:
+    """No physical volume is known beside that of a volume."""
+    return ()
 
 
 class Checkers:
-    """Looks at volumes with the tools that are there."""
+    """Looks at volumes with the tools that are there. `beside` says which physical volumes of some identifiers the images have by themselves."""
 
-    def __init__(self, commands: Runner, room: Room, seconds: float, most: int) -> None:
-        self.commands, self.room, self.seconds, self.most = commands, room, seconds, most
+    def __init__(self, commands: Runner, room: Room, seconds: float, most: int,
+                 beside: Callable[[Collection[str]], Sequence[Physical]] = no_others) -> None:
+        self.commands, self.room, self.seconds, self.most, self.beside = commands, room, seconds, most, beside
         self.there = {tool for tool in (*TOOLS, BLKID) if is_there(tool)}
 
     def kind_of(self, path: str, region: Region) -> str | None:
         """What `blkid` calls the head of a region; where it is not there, what it begins with."""
+        first = region.pieces[0]
         if BLKID in self.there:
-            words: list[str | int] = [BLKID, "-p", "-O", region.first, "-S", region.length, "-o", "export", path]
+            words: list[str | int] = [BLKID, "-p", "-O", first.first, "-S", first.length, "-o", "export", first.path or path]
             lines = self.commands.run(words, seconds=self.seconds).out.splitlines()
             return dict(line.split("=", 1) for line in lines if "=" in line).get("TYPE")
-        kind = heads.sniff(read_at(path, region.first, heads.HEAD_BYTES))
+        kind = heads.sniff(read_at(first.path or path, first.first, heads.HEAD_BYTES))
         return kind if kind in SYSTEMS else None
 
     def regions(self, volume: Volume) -> tuple[str | None, list[Region]]:
@@ -103,6 +110,8 @@ class Checkers:
         seconds = CHECKED_TIMES * self.seconds
         if system.at and length <= region.there(volume.length) and len(region.pieces) == 1:
             return self.commands.run(system.command(volume.path, region.first), seconds=seconds)
+        if len(region.pieces) > 1 and length > self.most:
+            return None
         with self.room.region(volume, region, length) as path:
             if path is None:
                 return None
@@ -113,11 +122,11 @@ class Checkers:
     def checked(self, it: Looked, region: Region, kind: str) -> tuple[Finding, list[Region]]:
         """What the checker of a region says, and the regions that were found in it."""
         system, volume = system_of(kind), it.volume
-        head = read_at(volume.path, region.first, LENGTH_BYTES)
+        head = read_at(region.pieces[0].path or volume.path, region.first, LENGTH_BYTES)
         told = system.length_of(head)
         there = region.there(volume.length)
         finding = Finding(region.name, kind, pieces=region.up_to(min(told or there, there)), lacks=lacking(told or region.length, there), told=told,
-                          there=there)
+                          there=there, device=region.device)
         if system.within:
             return finding, self.held(region, system.within(head))
         if system.tool is None or system.tool not in self.there:
@@ -133,18 +142,26 @@ class Checkers:
         finding.said += ", the sums of all data right" if finding.summed else ""
         behind = " and a copy of its first sector" if system.ends else ""
         finding.said += f", with zeros{behind} for its last {size_said(finding.lacks)}, which are not there" if finding.lacks else ""
-        return finding, self.inner(region, volume, answer.out) if system.holds else []
+        return finding, self.inner(region, volume, answer.out, finding) if system.holds else []
 
     def held(self, region: Region, first: int) -> list[Region]:
         """What a region holds from one of its bytes on; nothing where that is not told."""
         place = Piece(region.first + first, region.length - first)
         return [Region(f"{region.name} at {place.first // SECTOR}".strip(), (place,))] if 0 < first < region.length else []
 
-    def inner(self, region: Region, volume: Volume, text: str) -> list[Region]:
-        """The logical volumes of a physical one, by its text, of which most is there."""
+    def inner(self, region: Region, volume: Volume, text: str, finding: Finding) -> list[Region]:
+        """The logical volumes of a physical one, by its text, of which most is there; on which other physical volumes some lie stands in its
+        finding."""
         own = lvm.identifier(read_at(volume.path, region.first, lvm.LABEL_SECTORS * SECTOR))
-        found = [Region(f"{region.name} {it.said}:".strip(), it.pieces) for it in lvm.logical_volumes(text, region.first, own)]
-        return [it for it in found if it.first < volume.length and
+        others = lvm.others_of(text, own)
+        finding.own, finding.beside = own or "", tuple(self.beside(others))
+        there = {it.identifier for it in finding.beside}
+        finding.apart = tuple(identifier for identifier in others if identifier not in there)
+        finding.said += "".join(f"; its group is also on {it.said}" for it in finding.beside)
+        finding.said += "".join(f"; its group is also on another physical volume, {' '.join(filter(None, (it, others[it])))}" for it in finding.apart)
+        found = [Region(f"{region.name} {it.said}:".strip(), it.pieces, it.device)
+                 for it in lvm.logical_volumes(text, region.first, own, finding.beside)]
+        return [it for it in found if (it.pieces[0].path or it.first < volume.length) and
                 (it.there(volume.length) == it.length or lacking(it.length, it.there(volume.length)))]
 
     def look(self, volume: Volume, origins: Sequence[int], chunk: int, row: int, files: bool = True) -> Verdict:
@@ -160,7 +177,8 @@ class Checkers:
             it.todo = [Region(f"at {place // SECTOR}", (Piece(place, volume.length - place),))]
             self.look_into(it)
         if it.verdict.findings and not it.verdict.inner:
-            it.verdict.empty, it.verdict.findings[-1].said = True, "nothing known in it"
+            last = it.verdict.findings[-1]
+            it.verdict.empty, last.said = True, f"{last.said}; nothing known in it" if last.apart else "nothing known in it"
         if files and it.verdict.findings and not it.verdict.wholly_summed and not it.verdict.closed:
             self.count_files(it)
         it.verdict.counted = files
@@ -170,11 +188,12 @@ class Checkers:
         """Looks into the regions of a volume, and into those that are found in them."""
         while it.todo:
             region = it.todo.pop(0)
-            if region.first not in it.seen and len(region.pieces) == 1 and (kind := self.kind_of(it.volume.path, region)):
+            place = region.pieces[0].path, region.first
+            if place not in it.seen and (kind := self.kind_of(it.volume.path, region)):
                 finding, inner = self.checked(it, region, kind)
                 it.verdict.findings.append(finding)
                 it.todo += inner
-            it.seen.add(region.first)
+            it.seen.add(place)
 
     def count_files(self, it: Looked) -> None:
         """Counts the files that are whole, and those that may be long where the first ones do not tell."""

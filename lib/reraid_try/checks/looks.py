@@ -7,7 +7,7 @@ from typing import Any
 
 from ..calls.memory import Fields, Memory
 from ..calls.sets import Word
-from .lvm import Piece
+from .lvm import Physical, Piece
 from .verdicts import Finding, Verdict
 from .wholes import Wholes
 
@@ -29,7 +29,8 @@ def wholes_of(it: Mapping[str, Any]) -> Wholes:
 
 def finding_of(it: Mapping[str, Any]) -> Finding:
     """The region of an object."""
-    return Finding(**having(it, pieces=tuple(Piece(**piece) for piece in it["pieces"])))
+    return Finding(**having(it, pieces=tuple(Piece(**piece) for piece in it["pieces"]), apart=tuple(it.get("apart", ())),
+                            beside=tuple(Physical(**one) for one in it.get("beside", ()))))
 
 
 def verdict_of(it: Mapping[str, Any]) -> Verdict:

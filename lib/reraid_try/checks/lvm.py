@@ -1,8 +1,9 @@
-"""The text of LVM2, and the logical volumes that lie in linear pieces of a physical one, but for what lies on another one behind these."""
+"""The text of LVM2, and the logical volumes that lie in linear pieces of a physical one, and of others that are known, but for what lies on another
+one behind these."""
 
 import dataclasses
 import re
-from collections.abc import Mapping
+from collections.abc import Iterable, Mapping
 
 from ..units import ALL, SECTOR
 
@@ -16,25 +17,51 @@ Folder = dict[str, Value]
 
 @dataclasses.dataclass(frozen=True)
 class Piece:
-    """A part of a volume: its first byte, and how many."""
+    """A part of a volume: its first byte, and how many; and the file in which it lies, where that is not the volume's."""
 
     first: int
     length: int
+    path: str = ""
+
+
+@dataclasses.dataclass(frozen=True)
+class Physical:
+    """A physical volume that an image has in one piece: its identifier, the number of the image and its file, its first byte there, and how many it
+    says that it has."""
+
+    identifier: str
+    image: int
+    path: str
+    first: int
+    length: int
+
+    @property
+    def said(self) -> str:
+        """Where it is."""
+        return f"image {self.image} from sector {self.first // SECTOR} on"
 
 
 @dataclasses.dataclass(frozen=True)
 class Logical:
-    """A logical volume: its name, and its pieces in order. Where it is `spread` the last ones lie on another physical volume, behind all that is
-    there."""
+    """A logical volume: its name and that of its group, and its pieces in order. Where it is `spread` the last ones lie on another physical volume,
+    behind all that is there; `beside` are the places of those on other physical volumes that are known."""
 
     name: str
     pieces: tuple[Piece, ...]
     spread: bool = False
+    group: str = ""
+    beside: tuple[str, ...] = ()
 
     @property
     def said(self) -> str:
         """How it is called."""
-        return f"logical volume {self.name}" + ", whose end lies on another physical volume" * self.spread
+        beside = f", in part on {' and '.join(self.beside)}" if self.beside else ""
+        return f"logical volume {self.name}{beside}" + ", whose end lies on another physical volume" * self.spread
+
+    @property
+    def device(self) -> str:
+        """The device that it is once its group is active."""
+        return f"/dev/{self.group}/{self.name}"
 
 
 def read_text(text: str) -> Folder:
@@ -76,12 +103,13 @@ def linear(segment: Folder) -> bool:
     return segment.get("type") == "striped" and segment.get("stripe_count") == "1"
 
 
-def piece(segment: Folder, own: str, base: int, size: int) -> Piece:
-    """Where a segment lies; behind all that is there where that is on another physical volume than the one of this name."""
+def piece(segment: Folder, bases: Mapping[str, Piece], size: int) -> Piece:
+    """Where a segment lies, by where the extents of physical volumes begin, by their names; behind all that is there where that is not known."""
     stripes = segment.get("stripes")
     if not isinstance(stripes, list):
         raise ValueError("stripes")
-    found = Piece(base + int(stripes[1]) * size if stripes[0] == own else ALL, number(segment, "extent_count") * size)
+    base = bases.get(stripes[0])
+    found = Piece(base.first + int(stripes[1]) * size if base else ALL, number(segment, "extent_count") * size, base.path if base else "")
     if found.first < 0 or found.length <= 0:
         raise ValueError("stripes")
     return found
@@ -93,32 +121,63 @@ def identifier(head: bytes) -> str | None:
     return head[label + IDENTIFIER:label + IDENTIFIER + CHARACTERS].decode("ascii", "replace") if label >= 0 else None
 
 
-def logical_volumes(text: str, first: int, volume: str | None = None) -> list[Logical]:
-    """The logical volumes of a physical one that begins at a byte, by its text and its identifier; none where the text is none."""
+def group_of(text: str) -> tuple[str, Folder]:
+    """The first group that a text tells of, with its name; it raises `StopIteration` where it tells of none."""
+    return next((name, folder(group)) for name, group in read_text(text).items() if "physical_volumes" in folder(group))
+
+
+def logical_volumes(text: str, first: int, volume: str | None = None, others: Iterable[Physical] = ()) -> list[Logical]:
+    """The logical volumes of a physical one that begins at a byte, by its text and its identifier, and of others that are known; none where the text
+    is none."""
     try:
-        groups = [group for group in map(folder, read_text(text).values()) if "physical_volumes" in group]
-        return [it for group in groups[:1] for it in of_group(group, first, volume)]
+        return of_group(*group_of(text), first, volume, {it.identifier: it for it in others})
     except (KeyError, ValueError, IndexError, StopIteration):
         return []
+
+
+def others_of(text: str, volume: str | None) -> dict[str, str]:
+    """The identifiers of the other physical volumes on which logical ones lie in the group of one, each with the device that it was; none where the
+    text is none."""
+    try:
+        _, group = group_of(text)
+        own = own_name(group, volume)
+        stripes = [segment.get("stripes") for body in folder(group.get("logical_volumes")).values() for segment in segments_of(folder(body))]
+        used = {name for it in stripes if isinstance(it, list) for name in it[::2]} - {own}
+        return {identifier_of(body): str(folder(body).get("device", "")) for name, body in folder(group["physical_volumes"]).items() if name in used}
+    except (KeyError, ValueError, StopIteration):
+        return {}
+
+
+def identifier_of(body: Value) -> str:
+    """The identifier of a physical volume that a text names, as its label has it."""
+    return str(folder(body).get("id", "")).replace("-", "")
+
+
+def segments_of(body: Folder) -> list[Folder]:
+    """The segments of a logical volume, in their order."""
+    return sorted((folder(it) for key, it in body.items() if SEGMENT.fullmatch(key)), key=lambda it: number(it, "start_extent"))
 
 
 def own_name(group: Folder, volume: str | None) -> str:
     """What a group calls the physical volume of an identifier; its first one where it names none such."""
     names = folder(group["physical_volumes"])
-    return next((name for name, body in names.items() if str(folder(body).get("id", "")).replace("-", "") == volume), next(iter(names)))
+    return next((name for name, body in names.items() if identifier_of(body) == volume), next(iter(names)))
 
 
-def of_group(group: Folder, first: int, volume: str | None) -> list[Logical]:
-    """The logical volumes of a group whose physical volume of an identifier begins at a byte."""
-    own = own_name(group, volume)
-    start = number(folder(folder(group["physical_volumes"])[own]), "pe_start")
-    base, size = first + start * SECTOR, number(group, "extent_size") * SECTOR
+def of_group(called: str, group: Folder, first: int, volume: str | None, others: Mapping[str, Physical]) -> list[Logical]:
+    """The logical volumes of a group that lie on its physical volume of an identifier, which begins at a byte."""
+    names, own, size = folder(group["physical_volumes"]), own_name(group, volume), number(group, "extent_size") * SECTOR
+    known = {name: others[identifier_of(body)] for name, body in names.items() if name != own and identifier_of(body) in others}
+    begins = {own: Piece(first, 0), **{name: Piece(it.first, 0, it.path) for name, it in known.items()}}
+    bases = {name: dataclasses.replace(it, first=it.first + number(folder(names[name]), "pe_start") * SECTOR) for name, it in begins.items()}
+    places = {it.path: it.said for it in known.values()}
     found = []
     for name, body in folder(group.get("logical_volumes")).items():
-        segments = sorted((folder(it) for key, it in folder(body).items() if SEGMENT.fullmatch(key)), key=lambda it: number(it, "start_extent"))
-        pieces = tuple(piece(it, own, base, size) for it in segments) if all(map(linear, segments)) else ()
+        segments = segments_of(folder(body))
+        pieces = tuple(piece(it, bases, size) for it in segments) if all(map(linear, segments)) else ()
         elsewhere = [it.first == ALL for it in pieces]
         # What lies elsewhere before what is there would move that.
-        if pieces and not elsewhere[0] and elsewhere == sorted(elsewhere):
-            found.append(Logical(name, pieces, elsewhere[-1]))
+        if any(not it.path and it.first != ALL for it in pieces) and not elsewhere[0] and elsewhere == sorted(elsewhere):
+            beside = tuple(dict.fromkeys(places[it.path] for it in pieces if it.path))
+            found.append(Logical(name, pieces, elsewhere[-1], called, beside))
     return found

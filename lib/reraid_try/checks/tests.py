@@ -1,6 +1,7 @@
 """Tests candidates: reads their volumes, and lets the checkers read them."""
 
 import concurrent.futures
+import functools
 from collections.abc import Callable, Hashable, Iterable, Sequence
 from typing import TypeVar
 
@@ -9,7 +10,7 @@ from ..calls.memory import Memory
 from ..calls.program import Program
 from ..calls.sets import Word
 from ..errors import said
-from ..evidence import heads, maps
+from ..evidence import heads, labels, maps
 from ..evidence.images import Image, unread_by
 from ..options import Options
 from ..report.report import Report
@@ -66,7 +67,7 @@ class Tests:
         self.names = tuple(image.name for image in images)
         self.program = Program(commands, self.names, options.seconds, options.jobs)
         self.images = tuple(images)
-        self.checks = Checkers(commands, room, options.seconds, options.first)
+        self.checks = Checkers(commands, room, options.seconds, options.first, functools.partial(labels.physical, self.images))
         self.maps = maps.maps_text([image.unread for image in images])
         self.looks = Looks(memory, self.maps, self.checks.there, options.seconds, options.first)
         self.put_off: list[Candidate] = []

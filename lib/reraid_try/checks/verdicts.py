@@ -5,7 +5,7 @@ import enum
 from collections.abc import Sequence
 
 from ..units import SECTOR, counted, percent
-from .lvm import Piece
+from .lvm import Physical, Piece
 from .systems import System, system_of
 from .wholes import Wholes
 
@@ -35,7 +35,8 @@ class Finding:
     """A region that holds something: what it is called, its type, and what its checker said. `clean` is None where none was asked. `pieces` are
     where it lies, as far as it says that it is long; `lacks` how many of its bytes lie behind the end of the volume, as zeros are put there; `told`
     and `there` how many bytes it says that it has, 0 where that is not told, and how many of the volume there are for it; `table` says that it is a
-    partition table."""
+    partition table. `device` is what a logical volume is once its group is active. Of a physical volume `own` is its identifier, `beside` and `apart`
+    are the others on which volumes of its group lie: those that images have in one piece, and the identifiers of those that none has."""
 
     region: str
     kind: str
@@ -46,6 +47,10 @@ class Finding:
     told: int = 0
     there: int = 0
     table: bool = False
+    device: str = ""
+    own: str = ""
+    beside: tuple[Physical, ...] = ()
+    apart: tuple[str, ...] = ()
 
     @property
     def place(self) -> Piece | None:
@@ -81,9 +86,9 @@ class Finding:
 
 
 def covered(pieces: Sequence[Piece], length: int) -> int:
-    """How many bytes of a volume lie in these pieces."""
+    """How many bytes of a volume lie in these pieces, of which some may lie in other files."""
     total, after = 0, 0
-    for piece in sorted(pieces, key=lambda it: it.first):
+    for piece in sorted((it for it in pieces if not it.path), key=lambda it: it.first):
         first, last = max(piece.first, after), min(piece.first + piece.length, length)
         total, after = total + max(0, last - first), max(after, last)
     return total
@@ -113,7 +118,7 @@ class Verdict:
     @property
     def begins(self) -> int | None:
         """The first byte of the volume at which something was found; None where nothing was."""
-        return min((0 if it.table else it.pieces[0].first for it in self.findings if it.table or it.pieces), default=None)
+        return min((0 if it.table else it.pieces[0].first for it in self.findings if it.table or it.pieces and not it.pieces[0].path), default=None)
 
     @property
     def clean(self) -> bool:

@@ -33,10 +33,11 @@ COPIED = 64 * KIB
 
 @dataclasses.dataclass(frozen=True)
 class Region:
-    """A part of a volume that may hold a file system: its name, and its pieces in order."""
+    """A part of a volume that may hold a file system: its name, its pieces in order, and the device that it is where its group is active."""
 
     name: str
     pieces: tuple[Piece, ...]
+    device: str = ""
 
     @property
     def length(self) -> int:
@@ -45,19 +46,19 @@ class Region:
 
     @property
     def first(self) -> int:
-        """Where it begins in the volume."""
+        """Where it begins in the volume, or in the file of its first piece."""
         return self.pieces[0].first
 
     def there(self, length: int) -> int:
-        """How many of its bytes a volume of so many has."""
-        return sum(max(0, min(piece.first + piece.length, length) - piece.first) for piece in self.pieces)
+        """How many of its bytes there are where a volume has so many."""
+        return sum(piece.length if piece.path else max(0, min(piece.first + piece.length, length) - piece.first) for piece in self.pieces)
 
     def up_to(self, length: int) -> tuple[Piece, ...]:
         """The pieces of its first bytes."""
         found = []
         for piece in self.pieces:
             if length > 0:
-                found.append(Piece(piece.first, min(piece.length, length)))
+                found.append(dataclasses.replace(piece, length=min(piece.length, length)))
             length -= piece.length
         return tuple(found)
 
@@ -272,12 +273,13 @@ def clear_old(folder: str) -> None:
 
 
 def copy(source: str, target: str, pieces: Sequence[Piece], length: int, room: int) -> bool:
-    """Copies the pieces of a file one after another, without what is zeros or cannot be read. It says whether there was room."""
+    """Copies the pieces of a file, or of others, one after another, without what is zeros or cannot be read. It says whether there was room."""
     zeros, written, at = bytes(COPIED), 0, 0
-    with unread.opened(source) as old, open(target, "wb") as new:
+    with contextlib.ExitStack() as stack, open(target, "wb") as new:
+        olds = {path: stack.enter_context(unread.opened(path or source)) for path in {piece.path for piece in pieces}}
         for piece in pieces:
             size = min(piece.length, length - at)
-            for place, block in reading.blocks(old, piece.first, piece.first + size, COPIED):
+            for place, block in reading.blocks(olds[piece.path], piece.first, piece.first + size, COPIED):
                 if block != zeros[:len(block)]:
                     new.seek(at + place - piece.first)
                     new.write(block)

@@ -116,14 +116,19 @@ def mount(it: Finding, others: bool, path: str, length: int) -> str:
     return f"mount -o {options} {path} /mnt"
 
 
-def mounts(verdict: Verdict, path: str, length: int) -> list[str]:
-    """The lines that mount what was found in a volume of so many bytes, for reading; or that make a disk of it for LVM2, or open what is
-    encrypted."""
+def mounts(verdict: Verdict, path: str, length: int, names: Sequence[str] = ()) -> list[str]:
+    """The lines that mount what was found in a volume of so many bytes, for reading; or that make a disk of it for LVM2, and of the other physical
+    volumes of its group that images have, by their names; or open what is encrypted."""
     found = [it for it in verdict.findings if it.place]
-    plain = [it for it in found if it.system.mount]
+    pieces = [it for it in verdict.findings if len(it.pieces) > 1 and it.device and it.system.mount]
+    plain = [it for it in found if it.system.mount and not (pieces and it.device)]
     lines = [mount(it, len(plain) > 1, path, length) for it in plain]
-    for it in [it for it in found if it.kind == LVM and not plain]:
-        lines += [f"losetup -r -f --show {offset(it)}{path}", "vgchange -ay"]
+    for it in [it for it in found if it.kind == LVM and (pieces or not plain)]:
+        lines += [f"losetup -r -f --show {offset(it)}{path}"]
+        lines += [f"losetup -r -f --show -o {one.first} --sizelimit {one.length} {shlex.quote(names[one.image])}" for one in it.beside if names]
+        lines += ["vgchange -ay"]
+    logical = [it for it in verdict.findings if pieces and it.device and it.system.mount]
+    lines += [f"mount -o {it.system.mount} {shlex.quote(it.device)} /mnt" for it in logical]
     for it in verdict.encrypted:
         device = f"$(losetup -r -f --show {offset(it)}{path})" if offset(it) else path
         name = path.split("/", maxsplit=1)[0]
@@ -155,7 +160,7 @@ def commands(number: int, it: Candidate, images: Sequence[Image]) -> list[str]:
     if lacks:
         lines += [f"cp --sparse=always {path} {folder}.img", f"truncate -s {length + lacks} {folder}.img"]
         path = f"{folder}.img"
-    return lines + mounts(it.found, path, length + lacks)
+    return lines + mounts(it.found, path, length + lacks, [image.opened.typed if image.opened else image.name for image in images])
 
 
 def typed_maps(members: Members) -> str:
@@ -207,11 +212,23 @@ def of_maps(word: Word, images: Sequence[Image], typed: bool = False) -> list[st
     return ["  (what the maps beside the images call unread is found by parity there, and what is lost cannot be read)"]
 
 
-def say_class(report: Report, number: int, it: Candidate, images: Sequence[Image]) -> None:
-    """What a class is, what was loosened for it, and what to type."""
+def apart_lines(it: Candidate, order: Sequence[Candidate]) -> list[str]:
+    """In which classes the other physical volumes of a group lie that no image has by itself."""
+    found = []
+    for identifier in (identifier for finding in it.found.findings for identifier in finding.apart):
+        owners = [number for number, other in enumerate(order)
+                  if other.same is None and identifier in (one.own for one in other.found.findings)]
+        if owners:
+            found.append(f"  the physical volume {identifier} of its group is in class {' or '.join(map(str, owners))}: mount that too, and show it "
+                         "by losetup before vgchange")
+    return found
+
+
+def say_class(report: Report, number: int, it: Candidate, images: Sequence[Image], order: Sequence[Candidate] = ()) -> None:
+    """What a class is, what was loosened for it, and what to type; `order` are all classes."""
     names = [image.called for image in images]
     said, typed = in_words(it.word, names, it.whole.word if it.whole else None), commands(number, it, images)
-    report.say("words", "\n".join(lines_of(number, it, images, said, typed)),
+    report.say("words", "\n".join(lines_of(number, it, images, said, typed) + apart_lines(it, order)),
                **{"class": number, "set": it.word.text, "words": said, "rows": it.rows, "old": list(it.old), "commands": typed})
 
 
@@ -220,7 +237,7 @@ def show(report: Report, order: Sequence[Candidate], images: Sequence[Image]) ->
     checker."""
     told, closed = best(order), encrypted(order)
     for number, it in told[:MOST_TOLD]:
-        say_class(report, number, it, images)
+        say_class(report, number, it, images, order)
     if len(told) > MOST_TOLD:
         report.say("words", f"{len(told) - MOST_TOLD} more classes have the same sign", more=len(told) - MOST_TOLD)
     closed = [pair for pair in closed if pair not in told[:MOST_TOLD]]
@@ -230,6 +247,6 @@ def show(report: Report, order: Sequence[Candidate], images: Sequence[Image]) ->
         report.say("encrypted", f"encrypted ({kinds}): no checker tells {'this class' if len(closed) == 1 else 'these classes'} from a wrong one. "
                    f"Try each with its key: class {numbers}", classes=[number for number, _ in closed], kinds=kinds)
     for number, it in closed[:MOST_TOLD]:
-        say_class(report, number, it, images)
+        say_class(report, number, it, images, order)
     if len(closed) > MOST_TOLD:
         report.say("words", f"{len(closed) - MOST_TOLD} more of these stand in the table alone", more=len(closed) - MOST_TOLD)

@@ -1,5 +1,6 @@
 """The lines of `reraid relations`, and what they tell of arrays. The rows are made by `rows`."""
 
+import dataclasses
 import random
 import unittest
 
@@ -215,7 +216,11 @@ class Families(unittest.TestCase):
                          "which is zeros there, if nothing is stored on it there")
 
         self.assertEqual(found.reshape.short(), "perhaps a reshape stopped between sector 2207 and sector 2208, of 4 disks to 5, as was said: then "
-                         "no one set has the whole volume. What stands up to there is of the one array, and what stands behind it of the other")
+                         "no one set has the whole volume. What stands up to there is of the one array, and what stands behind it of the other. The "
+                         "sets of the one: --members 5 --first 1130496; those of the other: --members 4, without image 4; they need not have a sign. "
+                         "If it was on its way to more disks, the volume is that of the one up to its sector (2208 - OFFSET) * DATA DISKS, rounded "
+                         "down to whole rows of chunks, and from there on that of the other")
+        self.assertIn("--members 5 --first 1048576;", dataclasses.replace(found.reshape, last=99).short())
 
     def test_older_array_behind_what_is_written(self) -> None:
         """The same is seen where an older array of four disks still stands behind what one of five wrote, so it is not called a reshape alone."""

@@ -6,6 +6,7 @@ import itertools
 from collections.abc import Iterable, Iterator, Mapping, Sequence
 from fractions import Fraction
 
+from ..units import MIB, SECTOR
 from .dependence import inverse, product
 from .relations import Relations, Rows, Tie
 
@@ -73,10 +74,13 @@ class Reshape:
                 f"; and so does image {out}, which is zeros there, if nothing is stored on it there" * self.empty)
 
     def short(self) -> str:
-        """What is said of it at the end, where no volume has a sign."""
+        """What is said of it at the end, where no volume has a sign, and how to go on."""
+        out, first = ", ".join(map(str, sorted(self.before - self.after))), max(MIB, (self.last + 1) * SECTOR)
         return (f"perhaps a reshape stopped between sector {self.last} and sector {self.sector}, of {len(self.after)} disks to {len(self.before)}, "
                 "as was said: then no one set has the whole volume. What stands up to there is of the one array, and what stands behind it of the "
-                "other")
+                f"other. The sets of the one: --members {len(self.before)} --first {first}; those of the other: --members {len(self.after)}, without "
+                f"image {out}; they need not have a sign. If it was on its way to more disks, the volume is that of the one up to its sector "
+                f"({self.last + 1} - OFFSET) * DATA DISKS, rounded down to whole rows of chunks, and from there on that of the other")
 
     def closer(self, relations: Relations) -> "Reshape":
         """The same by rows between the two, which lie closer to each other."""

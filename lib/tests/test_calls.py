@@ -230,6 +230,9 @@ class Asked(unittest.TestCase):
         self.assertEqual([words[0] for words in request.filters(plan)], ["sed", "awk"])
         self.assertIn("n==2", str(request.filters(plan)[1][1]))
         self.assertEqual(Request(records=True).filters(read_plan(PLAN)), [])
+        # Record 0, its copy, and both on parity are no more than four.
+        few = read_plan(PLAN.replace("group ext\n", "group ntfs\n" + "".join(f"mark record 0 {k} at:6\n" for k in range(4)) + "group ext\n"))
+        self.assertEqual(Request(records=True).filters(few), [])
 
 
 class Surveyed(unittest.TestCase):

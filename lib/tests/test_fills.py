@@ -87,7 +87,8 @@ class Texts(InFolder):
         it = held((5, BAD), (6, BAD), (9, BAD))
         self.assertEqual((it.runs, it.sectors, it.varies, it.is_one), ([(5, 7), (9, 10)], 3, False, True))
         self.assertEqual([held(*((sector, b"S %d" % (number)) for sector, number in enumerate(numbers))).is_one
-                          for numbers in ([4, 5, 6], [4, 9, 2], [4, 4, 4], [*range(11), 50], [*range(9), 50])], [True, False, True, True, False])
+                          for numbers in ([4, 5, 6], [4, 9, 2], [4, 4, 4], [4, 5, 4], [*range(11), 50], [*range(9), 50])],
+                         [True, False, True, False, True, False])
         self.assertFalse(held((1, b"S 1"), (3, b"S 3")).is_one)
         self.assertEqual(it.joined(held((1, BAD), (7, BAD))).runs, [(1, 2), (5, 7), (7, 8), (9, 10)])
 
@@ -111,11 +112,11 @@ class Texts(InFolder):
 
     def test_what_is_seen(self) -> None:
         short = once(b"ref: master")
-        blocks = {16: full(BAD), 17: full(BAD), 24: short, 32: once(b"bad 1"), 33: once(b"bad 2"), 40: full(b"ab")}
+        blocks = {16: full(BAD), 17: full(BAD), 24: short, 25: short, 32: once(b"bad 1"), 33: once(b"bad 2"), 34: once(b"bad 3"), 40: full(b"ab")}
         file = io.BytesIO(b"".join(blocks.get(place, b"\1" + bytes(SECTOR - 1)) for place in range(48)))
         with mock.patch("reraid_try.evidence.reading.data_runs", lambda _, first, last: [(first, last)]):
-            self.assertEqual([it.runs for it in texts.seen(file, 48 * SECTOR).sorted([])], [[(16, 18)], [(32, 34)]])
-            self.assertEqual([it.runs for it in texts.seen(file, 48 * SECTOR).sorted([range(17, 20)])], [[(32, 34)]])
+            self.assertEqual([it.runs for it in texts.seen(file, 48 * SECTOR).sorted([])], [[(32, 35)], [(16, 18)]])
+            self.assertEqual([it.runs for it in texts.seen(file, 48 * SECTOR).sorted([range(17, 20)])], [[(32, 35)]])
             file = io.BytesIO(bytes(8 * SECTOR) + short + bytes(7 * SECTOR) + short)
             self.assertEqual([it.runs for it in texts.seen(file, 17 * SECTOR).sorted([])], [[(8, 9), (16, 17)]])
             self.assertEqual(texts.all_like(file, 17 * SECTOR, []).found, {})
@@ -276,3 +277,6 @@ class Images(InFolder):
         self.assertEqual([it.why for it in self.told(images[1:2])], [])
         images[1] = dataclasses.replace(images[1], like=0)
         self.assertEqual(self.told(images), [])
+        images = self.images(*[(1, row, full(BAD)) for row in range(40, 56)], sums=False)
+        self.assertEqual(len(self.told(images)), 1)
+        self.assertEqual(self.told([dataclasses.replace(images[0], first=None), *images[1:]]), [])

@@ -3,6 +3,7 @@
 import io
 import os
 import pathlib
+import shutil
 import tempfile
 import time
 import unittest
@@ -123,6 +124,19 @@ class Progress(unittest.TestCase):
             bar.tell()
             bar.tell()
         self.assertEqual(said.getvalue(), "0:00 trial 3: goes on\n")
+
+    def test_on_a_terminal(self) -> None:
+        """What is done stands in one line, as wide as the terminal at most, until it is taken away."""
+        said = io.StringIO()
+        bar = Bar()
+        bar.there = True
+        with redirect_stderr(said), mock.patch.object(shutil, "get_terminal_size", lambda: os.terminal_size((28, 9))):
+            bar.show("trial 3", 1, 4)
+            bar.show("trial 4")
+            bar.clear()
+            bar.clear()
+        clear = "\r\033[K"
+        self.assertEqual(said.getvalue(), f"{clear}0:00 trial 3 [#####        {clear}0:00 trial 4{clear}")
 
     def test_another_time(self) -> None:
         """What is asked for in place of a minute is waited for, and a third of it for what is counted."""

@@ -1,6 +1,7 @@
 """Physical volumes of LVM2 that images have in one piece, and the logical volumes that lie on them and on that of a volume."""
 
 import dataclasses
+import os
 import struct
 
 from reraid_try.checks import lvm
@@ -71,6 +72,10 @@ class OfImages(InFolder):
                        (2149, label(OTHER, 9)[:40]), (2152, label(OTHER, 9))):
             self.assertEqual(self.found(self.image((at, it.ljust(SECTOR, b"\0")), partitions=(partition,)), OTHER), [])
         self.assertEqual(self.found(self.image((1, label(OTHER, 9)))), [])
+        short = self.image((2049, label(OTHER, SECTOR)), sectors=2051)
+        self.assertEqual(len(self.found(short, OTHER)), 1)
+        os.truncate(short.name, 2049 * SECTOR + 71)
+        self.assertEqual(self.found(short, OTHER), [])
 
     def test_the_first_of_copies(self) -> None:
         images = [dataclasses.replace(self.image((1, label(OTHER, 9))), number=number) for number in (3, 5)]

@@ -177,7 +177,7 @@ def of_group(called: str, group: Folder, first: int, volume: str | None, others:
         pieces = tuple(piece(it, bases, size) for it in segments) if all(map(linear, segments)) else ()
         elsewhere = [it.first == ALL for it in pieces]
         # What lies elsewhere before what is there would move that.
-        if any(not it.path and it.first != ALL for it in pieces) and not elsewhere[0] and elsewhere == sorted(elsewhere):
+        if any(not it.path and it.first != ALL for it in pieces) and elsewhere == sorted(elsewhere):
             beside = tuple(dict.fromkeys(places[it.path] for it in pieces if it.path))
             found.append(Logical(name, pieces, elsewhere[-1], called, beside))
     return found

@@ -150,6 +150,18 @@ class Looked(InFolder):
         verdict, seen = self.looked(known(other), most=1199 * SECTOR)
         self.assertEqual((verdict.findings[1].said, seen), ("no room to check it", []))
 
+    def test_lines_to_type(self) -> None:
+        """A logical volume in one piece is mounted by its place, unless another one needs its group: then all are by their devices."""
+        one = Finding("", "ext4", True, pieces=(Piece(MIB, MIB),), device="/dev/vg/one")
+        two = Finding("", "xfs", True, pieces=(Piece(MIB, MIB), Piece(0, MIB, "x")), device="/dev/vg/two")
+        pv = Finding("", "LVM2_member", pieces=(Piece(0, 4 * MIB),))
+        self.assertEqual(words.mounts(Verdict([pv, one]), "v", 4 * MIB), [f"mount -o ro,noload,loop,offset={MIB} v /mnt"])
+        self.assertEqual(words.mounts(Verdict([pv, one, two]), "v", 4 * MIB),
+                         ["losetup -r -f --show v", "vgchange -ay", "mount -o ro,noload /dev/vg/one /mnt", "mount -o ro,norecovery /dev/vg/two /mnt"])
+        other = Finding("", "ext4", True, pieces=(Piece(8 * MIB, MIB),))
+        self.assertEqual(words.mounts(Verdict([pv, other, two]), "v", 4 * MIB)[:3],
+                         [f"mount -o ro,noload,loop,offset={8 * MIB} v /mnt", "losetup -r -f --show v", "vgchange -ay"])
+
     def test_where_the_other_one_is_not_there(self) -> None:
         """Which is told, also where it is in the volume of another class."""
         verdict, seen = self.looked()

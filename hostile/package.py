@@ -28,7 +28,7 @@ COMPLETIONS = [
     ("reraid survey lev", ["levels="]),
     ("reraid survey levels=5 m", ["members=", "missing=", "misfits=", "mode="]),
     ("reraid survey levels=5,", ["5,0", "5,6"]),
-    ("reraid survey kinds=gpt,x", ["gpt,xfs"]),
+    ("reraid survey kinds=gpt,x", ["gpt,xfs", "gpt,xfs5"]),
     ("reraid list form=", ["text", "json"]),
     ("reraid salvage form=", ["data", "lost"]),
     ("reraid relations form=", ["text", "json"]),

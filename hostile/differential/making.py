@@ -19,7 +19,8 @@ class Case:
     def __init__(self, words, text=b"", files=None, large=False):
         self.words, self.text, self.files = words, text, files or {}
         self.large = large  # a plan of more sets than can be gone through, of which the words ask for a few
-        self.failing = None  # the read of an image that fails, counted from 1
+        self.failing = None  # the read of an image that fails, counted from 1, and all after it
+        self.refused = None  # the request for memory that is refused, counted from 1
 
 
 # Arrays

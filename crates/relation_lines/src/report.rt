@@ -1,5 +1,5 @@
 //! A report over rows that are taken one after the other.
-ghost use Rattle.std.specs.Prelude.{ℕ, ◌≡◌, ◌+◌, ◌*◌, ◌<◌, ◌≤◌, ◌^◌, ◌++◌, ◌∷◌, [], IfOk, OnOk, Some, length};
+ghost use Rattle.std.specs.Prelude.{ℕ, ◌≡◌, ◌+◌, ◌*◌, ◌<◌, ◌≤◌, ◌^◌, ◌++◌, ◌∷◌, [], IfOk, OnErr, OnOk, Some, length};
 ghost use Rattle.outside.specs.Causes.{HasCause};
 ghost use Rattle.outside.specs.Streams.{Puts};
 ghost use Rattle.std.specs.List.{fold};
@@ -84,7 +84,8 @@ impl Report {
     }
 
     /// Takes a row with its table. Where it ends a run, that run's line is put. The table is then one of as many images, to be filled
-    /// for the next row.
+    /// for the next row. Where the line could not be put, the report and the table are as they were: of the line, the sink may have a
+    /// part.
     pub fn add<K: Sink>(
         &mut self,
         sink: &mut K,
@@ -95,6 +96,8 @@ impl Report {
         requires images { length table.old.standings ≡ self.old.images }
         ensures state { OnOk result (self.new ≡ after self.old (record { sector = row; table = table.old })) }
         ensures images { OnOk result (length table.new.standings ≡ self.new.images) }
+        ensures kept { OnErr result (self.new ≡ self.old) }
+        ensures returned { OnErr result (table.new ≡ table.old) }
         ensures put { Puts (K.gained sink.old) (K.gained sink.new) result (text_of self.old.style (lines_at self.old.run (record { sector = row; table = table.old }))) }
         ensures cause { HasCause (K.faults sink.old) (K.faults sink.new) result }
     {
@@ -165,6 +168,7 @@ fn take_row<K: Sink>(
     ensures run { OnOk result (run_of span.new kept.new ≡ Some (run_after (run_of span.old kept.old) (record { sector = row; table = next.old }))) }
     ensures table { OnOk result (kept.new ≡ next.old) }
     ensures images { OnOk result (length next.old.standings ≡ length kept.old.standings → length next.new.standings ≡ length kept.new.standings) }
+    ensures untaken { OnErr result ((span.new ≡ span.old) × (kept.new ≡ kept.old) × (next.new ≡ next.old)) }
     ensures put { Puts (K.gained sink.old) (K.gained sink.new) result (text_of style (lines_at (run_of span.old kept.old) (record { sector = row; table = next.old }))) }
     ensures cause { HasCause (K.faults sink.old) (K.faults sink.new) result }
 {

@@ -1,5 +1,5 @@
 -- Where leaves tell that addresses lie: below 2^64, as sectors below 2^55.
-use Rattle.std.proofs.Common.{◌≡◌, ℕ, ◌+◌, ◌-◌, ◌/◌, ◌<◌, ◌^◌, List, Bool, refl, true, false, IsTrue, cond, Option, Some, None, IfSome, sym, ap, arith, ◌∙◌}
+use Rattle.std.proofs.Common.{◌≡◌, ℕ, ◌+◌, ◌-◌, ◌/◌, ◌<◌, ◌^◌, List, Bool, refl, true, false, IsTrue, cond, Option, Some, None, IfSome, arith}
 use Rattle.std.specs.Prelude.{◌&&◌, nat_le, nat_lt}
 use Rattle.std.proofs.lemmas.Bool.Decides.{nat_tests}
 use Rattle.btrfstree.specs.Chunks.{chunk_item, chunk_of, first_place, has_leaf_item, is_chunk, is_second_within, is_within, leaf_chunk, place_from, second_from, second_place}

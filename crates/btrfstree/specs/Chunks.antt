@@ -1,4 +1,4 @@
--- Where the addresses of a btrfs lie on one device (btrfs On-disk Format, CHUNK_ITEM, Superblock). Numbers are little-endian. `item` are
+-- Where the addresses of a btrfs lie on one device (btrfs On-disk Format, CHUNK_ITEM). Numbers are little-endian. `item` are
 -- bytes that begin with a chunk item: no more of them than the item has are looked at.
 use Rattle.std.specs.Prelude.{ℕ, ◌+◌, ◌-◌, ◌*◌, ◌/◌, ◌^◌, List, Bool, true, ◌&&◌, ◌||◌, ◌==◌, nat_le, nat_lt, length, Option, Some, None, if◌then◌else◌, slice_index, drop}
 use Rattle.sector_fields.specs.Fields.{u16_le, u32_le, u64_le}
@@ -70,13 +70,6 @@ unfoldable pub is_within : Chunk → Bool
 is_within chunk =
     nat_lt (chunk.logical + chunk.bytes) (2 ^ 64) && nat_lt (chunk.first + chunk.bytes) (2 ^ 64)
     && is_second_within chunk.bytes chunk.second
-
--- the item at a byte of an array of keys with their chunk items, as a superblock has it: its chunk
-unfoldable pub array_chunk : ℕ → List ℕ → ℕ → Option Chunk
-array_chunk device array at =
-    if slice_index array (at + 8) == 228  -- type: u8 at 8 of the key, CHUNK_ITEM_KEY
-    then chunk_item device (u64_le array (at + 9)) (drop (at + 17) array)  -- offset: u64 at 9 of the key, the logical address
-    else None
 
 -- the byte at which the key of the item with a number of a leaf stands: after the header of 101 bytes and the keys before, each of 25
 -- with the place of its item

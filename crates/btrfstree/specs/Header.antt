@@ -17,23 +17,14 @@ is_block s =
     && nat_le (u32_le s 96) 2617  -- nritems: u32 at 96
     && nat_le (slice_index s 100) 7  -- level: u8 at 100
 
--- it is one of the file system with the identifier (its metadata_uuid where that is set)
-unfoldable pub is_header : List ℕ → List ℕ → Bool
-is_header identifier s = has_bytes s 32 identifier && is_block s
-
 -- its fields
 unfoldable pub header_of : List ℕ → TreeHeader
 header_of s = record {
   address = u64_le s 48;
   generation = u64_le s 80;  -- generation: u64 at 80
   owner = u64_le s 88;  -- owner: u64 at 88, the tree that contains the block
-  items = u32_le s 96;  -- nritems: u32 at 96
   level = slice_index s 100;
 }
-
--- the header's fields, if the sector begins a tree block of the file system
-unfoldable pub tree_header : List ℕ → List ℕ → Option TreeHeader
-tree_header identifier s = if is_header identifier s then Some (header_of s) else None
 
 -- a leaf of the tree of chunks
 unfoldable pub is_chunk_leaf : TreeHeader → Bool

@@ -1,4 +1,3 @@
 pub mod Header
 pub mod Chunks
 pub mod Whole
-pub mod Super

@@ -2,7 +2,7 @@
 
 ghost use Rattle.std.specs.Prelude.{◌≡◌, ◌+◌, ◌<◌, ◌≤◌, ◌^◌, length, IfSome, IsTrue};
 ghost use Rattle.sector_fields.specs.Fields.{u16_le, u64_le};
-ghost use Rattle.btrfstree.specs.Chunks.{array_chunk, chunk_item, chunk_of, first_place, has_leaf_item, has_stripe, is_chunk, is_dup, is_single, is_within, leaf_chunk, place_from, second_place};
+ghost use Rattle.btrfstree.specs.Chunks.{chunk_item, chunk_of, first_place, has_leaf_item, has_stripe, is_chunk, is_dup, is_single, is_within, leaf_chunk, place_from, second_place};
 
 use crate::fields::{u16_le, u32_le, u64_le};
 
@@ -36,27 +36,12 @@ pub struct Chunk {
 /// another profile than single with one stripe, or DUP with two; a stripe of another device; or an end of its addresses
 /// or of a stripe at 2^64 or later.
 #[tactic(auto, unfolding(crate::specs::Chunks::chunk_item), using(crate::proofs::Within::first_there, crate::proofs::Within::second_there))]
-pub fn read_chunk(device: u64, logical: u64, item: &[u8]) -> Option<Chunk>
+fn read_chunk(device: u64, logical: u64, item: &[u8]) -> Option<Chunk>
     ensures chunk { result ≡ chunk_item device logical item.now }
     ensures within { IfSome result (λ x. IsTrue (is_within x)) }
 {
     if is_chunk(device, logical, item) {
         Some(chunk_of(logical, item))
-    } else {
-        None
-    }
-}
-
-/// The chunk of the item at byte `at` of an array of keys, each with its chunk item, as the superblock has one of 2,048
-/// bytes from its byte 811 on. None where the key is that of no chunk item, or the item is that of no such chunk.
-#[tactic(auto, unfolding(crate::specs::Chunks::array_chunk))]
-pub fn read_array_chunk(device: u64, array: &[u8], at: usize) -> Option<Chunk>
-    requires { at + 17 ≤ length array.now }
-    ensures chunk { result ≡ array_chunk device array.now at }
-    ensures within { IfSome result (λ x. IsTrue (is_within x)) }
-{
-    if array[at + 8] == CHUNK_ITEM {
-        read_chunk(device, u64_le(array, at + 9), &array[at + 17..])
     } else {
         None
     }

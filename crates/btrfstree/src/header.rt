@@ -1,7 +1,7 @@
 //! The header of a tree block.
 
 ghost use Rattle.std.specs.Prelude.{◌≡◌};
-ghost use Rattle.btrfstree.specs.Header.{block_of, header_of, is_block, is_chunk_leaf, is_counted, is_header, is_mark, tree_block, tree_header};
+ghost use Rattle.btrfstree.specs.Header.{block_of, header_of, is_block, is_chunk_leaf, is_counted, is_mark, tree_block};
 
 use sector_fields::{SECTOR, has_bytes, u32_le, u64_le, uuid_at};
 use uuid::Uuid;
@@ -19,16 +19,14 @@ const MOST_ITEMS: u32 = 2617;
 const CHUNK_TREE: u64 = 3;
 
 /// What a tree block says of itself.
-#[derive(Clone, Copy, PartialEq, Eq)]
-pub struct TreeHeader {
+#[derive(Clone, Copy)]
+pub(crate) struct TreeHeader {
     /// Its logical address, in bytes.
     pub address: u64,
     /// The transaction that wrote it.
     pub generation: u64,
     /// The tree that it belongs to: 3 is the tree of chunks.
     pub owner: u64,
-    /// How many items it has.
-    pub items: u32,
     /// Its level: 0 is a leaf.
     pub level: u8,
 }
@@ -46,25 +44,11 @@ pub struct TreeBlock {
     pub is_chunk_leaf: bool,
 }
 
-/// The header of the tree block that begins in the sector (btrfs On-disk Format, Header), in the file system whose tree
-/// blocks have the identifier: its `metadata_uuid` where that is set, otherwise its `fsid`. None where none begins:
-/// another identifier, or all zeros; a superblock, which has its own there; an address of 0, or that is no multiple of 4,096; a
-/// revision of back references above 1; more than 2,617 items; or a level above 7. Its checksum, which covers the whole
-/// block, is not looked at.
-#[tactic(auto, unfolding(crate::specs::Header::tree_header))]
-pub fn read_header(identifier: &[u8; 16], sector: &[u8; SECTOR]) -> Option<TreeHeader>
-    ensures { result ≡ tree_header identifier.now sector.now }
-{
-    if is_header(identifier, sector) {
-        Some(header_of(sector))
-    } else {
-        None
-    }
-}
-
 /// The tree block that begins in the sector, if it counts (btrfs On-disk Format, Header), of whichever file system. None
-/// where none begins, as in [`read_header`]; or where its address begins no stretch of 64 KiB, and it is no leaf of the
-/// tree of chunks.
+/// where none begins: an identifier of zeros alone; a superblock, which has its own there; an address of 0, or that is no
+/// multiple of 4,096; a revision of back references above 1; more than 2,617 items; or a level above 7. None also where
+/// its address begins no stretch of 64 KiB, and it is no leaf of the tree of chunks. Its checksum, which covers the whole
+/// block, is not looked at.
 #[tactic(auto, unfolding(crate::specs::Header::tree_block))]
 pub fn read_block(sector: &[u8; SECTOR]) -> Option<TreeBlock>
     ensures { result ≡ tree_block sector.now }
@@ -82,14 +66,6 @@ fn is_counted(sector: &[u8; SECTOR]) -> bool
     ensures { result ≡ is_counted sector.now }
 {
     is_block(sector) && header_of(sector).is_mark()
-}
-
-/// Whether a tree block of the file system begins in the sector.
-#[tactic(auto, unfolding(crate::specs::Header::is_header))]
-fn is_header(identifier: &[u8; 16], sector: &[u8; SECTOR]) -> bool
-    ensures { result ≡ is_header identifier.now sector.now }
-{
-    has_bytes(sector, 32, identifier) && is_block(sector)
 }
 
 /// Whether a tree block begins in the sector.
@@ -116,7 +92,6 @@ fn header_of(sector: &[u8; SECTOR]) -> TreeHeader
         address: u64_le(sector, 48),
         generation: u64_le(sector, 80),
         owner: u64_le(sector, 88),
-        items: u32_le(sector, 96),
         level: sector[100],
     }
 }
@@ -138,7 +113,7 @@ fn block_of(sector: &[u8; SECTOR]) -> TreeBlock
 impl TreeHeader {
     /// Whether it is a leaf of the tree of chunks.
     #[tactic(auto, unfolding(crate::specs::Header::is_chunk_leaf))]
-    pub fn is_chunk_leaf(&self) -> bool
+    fn is_chunk_leaf(&self) -> bool
         ensures { result ≡ is_chunk_leaf self.now }
     {
         self.level == 0 && self.owner == CHUNK_TREE
@@ -147,7 +122,7 @@ impl TreeHeader {
     /// Whether such a tree block counts as a mark: its address begins a stretch of 64 KiB, or it is a leaf of the tree of
     /// chunks.
     #[tactic(auto, unfolding(crate::specs::Header::is_mark))]
-    pub fn is_mark(&self) -> bool
+    fn is_mark(&self) -> bool
         ensures { result ≡ is_mark self.now }
     {
         self.address % 65_536 == 0 || self.is_chunk_leaf()

@@ -5,20 +5,18 @@ use crate::btrfs_parts::{
     ARRAY, FRONT, LEAF, LEAF_ITEMS, RENAMED_FRONT, RENAMED_ROOTS, ROOTS, SINGLE_ARRAY,
 };
 use crate::sectors::{MADE, sector_of, turned};
-use btrfstree::{
-    Chunk, TreeHeader, TreeSuper, read_array_chunk, read_chunk, read_header, read_leaf_chunk,
-    read_super,
-};
+use btrfstree::{Chunk, TreeBlock, is_whole, read_block, read_leaf_chunk};
 use uuid::Uuid;
 
 // The leaf of the chunk tree, as it is printed.
-const CHUNK_LEAF: TreeHeader = TreeHeader {
-    address: 22_036_480,
-    generation: 6,
-    owner: 3,
-    items: 4,
-    level: 0,
-};
+fn chunk_leaf() -> Option<TreeBlock> {
+    Some(TreeBlock {
+        identifier: Uuid::from_bytes(MADE),
+        address: 22_036_480,
+        generation: 6,
+        is_chunk_leaf: true,
+    })
+}
 
 // The chunk of metadata, as it is printed.
 const METADATA: Chunk = Chunk {
@@ -29,7 +27,7 @@ const METADATA: Chunk = Chunk {
 };
 
 // Puts bytes into a block from a place on, as far as there is room.
-fn put(block: &mut [u8; 4096], at: usize, bytes: &[u8]) {
+fn put(block: &mut [u8], at: usize, bytes: &[u8]) {
     for (to, from) in block.iter_mut().skip(at).zip(bytes) {
         *to = *from;
     }
@@ -52,24 +50,29 @@ fn leaf() -> [u8; 16_384] {
     leaf
 }
 
-// What a superblock is read as.
-fn system() -> Option<TreeSuper> {
-    Some(TreeSuper {
-        uuid: Uuid::from_bytes(MADE),
-        device: 1,
-        node: 16_384,
-        chunk_root: 22_036_480,
-        array: 129,
-    })
+// A leaf whose one item has the key with which these bytes begin, and the others.
+fn leaf_of(keyed: &[u8]) -> [u8; 512] {
+    let mut leaf = [0; 512];
+    leaf[96] = 1;
+    put(&mut leaf, 126, keyed.get(17..).unwrap_or(&[]));
+    put(&mut leaf, 101, keyed.get(..17).unwrap_or(&[]));
+    leaf[118] = 25;
+    leaf
+}
+
+// The leaf with another address in the key of its item 1.
+fn moved(address: u64) -> [u8; 16_384] {
+    let mut leaf = leaf();
+    put(&mut leaf, 135, &address.to_le_bytes());
+    leaf
 }
 
 #[test]
 fn superblocks_of_dump_super(rt: HostRuntime) {
-    assert!(rt; read_super(&superblock(&FRONT, &ARRAY, &ROOTS)) == system());
-    assert!(rt; read_super(&superblock(&RENAMED_FRONT, &ARRAY, &RENAMED_ROOTS)) == system());
-    assert!(rt; read_super(&superblock(&FRONT, &ARRAY, &RENAMED_ROOTS)).is_none());
-    assert!(rt; read_super(&superblock(&RENAMED_FRONT, &ARRAY, &ROOTS)).is_none());
-    assert!(rt; read_super(&[0; 4096]).is_none());
+    assert!(rt; is_whole(&superblock(&FRONT, &ARRAY, &ROOTS)));
+    assert!(rt; is_whole(&superblock(&RENAMED_FRONT, &ARRAY, &RENAMED_ROOTS)));
+    assert!(rt; !is_whole(&superblock(&FRONT, &ARRAY, &RENAMED_ROOTS)));
+    assert!(rt; !is_whole(&superblock(&RENAMED_FRONT, &ARRAY, &ROOTS)));
 }
 
 #[test]
@@ -91,26 +94,17 @@ fn chunks_of_a_leaf(rt: HostRuntime) {
 }
 
 #[test]
-fn headers_of_dump_tree(rt: HostRuntime) {
-    assert!(rt; read_header(&MADE, &LEAF) == Some(CHUNK_LEAF));
-    assert!(rt; CHUNK_LEAF.is_mark());
-}
-
-#[test]
-fn no_headers(rt: HostRuntime) {
-    assert!(rt; read_header(&MADE, &sector_of(&FRONT)).is_none());
-    assert!(rt; read_header(&[0x11; 16], &LEAF).is_none());
-    assert!(rt; read_header(&[0; 16], &[0; 512]).is_none());
-    assert!(rt; read_header(&MADE, &turned(LEAF, 47)).is_none());
-    assert!(rt; read_header(&MADE, &turned(LEAF, 48)).is_none());
-    assert!(rt; read_header(&MADE, &turned(LEAF, 100)).is_none());
+fn blocks_of_dump_tree(rt: HostRuntime) {
+    assert!(rt; read_block(&LEAF) == chunk_leaf());
+    assert!(rt; read_block(&sector_of(&FRONT)).is_none());
+    assert!(rt; read_block(&turned(LEAF, 48)).is_none());
+    assert!(rt; read_block(&turned(LEAF, 100)).is_none());
 }
 
 // `btrfs-map-logical -l 30900224` prints mirror 1 at physical 39288832 and mirror 2 at 72843264.
 #[test]
 fn places_of_a_chunk_that_lies_twice(rt: HostRuntime) {
-    assert!(rt; read_chunk(1, 30_408_704, &LEAF_ITEMS[..112]) == Some(METADATA));
-    match read_chunk(1, 30_408_704, &LEAF_ITEMS[..112]) {
+    match read_leaf_chunk(1, &leaf(), 3) {
         Some(chunk) => {
             assert!(rt; chunk.first_place(30_900_224) == Some(39_288_832));
             assert!(rt; chunk.second_place(30_900_224) == Some(72_843_264));
@@ -128,7 +122,7 @@ fn places_of_a_chunk_that_lies_twice(rt: HostRuntime) {
 
 #[test]
 fn places_of_a_chunk_that_lies_once(rt: HostRuntime) {
-    match read_chunk(1, 13_631_488, &LEAF_ITEMS[224..304]) {
+    match read_leaf_chunk(1, &leaf(), 1) {
         Some(chunk) => {
             assert!(rt; chunk.bytes == 8_388_608 && chunk.second.is_none());
             assert!(rt; chunk.first_place(13_631_488 + 8_388_607) == Some(13_631_488 + 8_388_607));
@@ -141,7 +135,7 @@ fn places_of_a_chunk_that_lies_once(rt: HostRuntime) {
 // `btrfs-map-logical -l 22036480` prints mirror 1 at physical 22036480 and mirror 2 at 30425088.
 #[test]
 fn chunks_of_the_superblock(rt: HostRuntime) {
-    match read_array_chunk(1, &ARRAY, 0) {
+    match read_leaf_chunk(1, &leaf_of(&ARRAY), 0) {
         Some(chunk) => {
             assert!(rt; chunk.logical == 22_020_096 && chunk.bytes == 8_388_608);
             assert!(rt; chunk.first_place(22_036_480) == Some(22_036_480));
@@ -149,7 +143,7 @@ fn chunks_of_the_superblock(rt: HostRuntime) {
         }
         None => assert!(rt; false, "no chunk"),
     }
-    match read_array_chunk(1, &SINGLE_ARRAY, 0) {
+    match read_leaf_chunk(1, &leaf_of(&SINGLE_ARRAY), 0) {
         Some(chunk) => {
             assert!(rt; chunk.logical == 1_048_576 && chunk.bytes == 4_194_304);
             assert!(rt; chunk.first == 1_048_576 && chunk.second.is_none());
@@ -158,12 +152,17 @@ fn chunks_of_the_superblock(rt: HostRuntime) {
     }
 }
 
+// Of the items of 112 bytes and of 80 bytes one byte is cut off, or the key begins a byte later.
 #[test]
 fn no_chunks(rt: HostRuntime) {
-    assert!(rt; read_chunk(2, 30_408_704, &LEAF_ITEMS[..112]).is_none());
-    assert!(rt; read_chunk(1, 30_408_704, &LEAF_ITEMS[..111]).is_none());
-    assert!(rt; read_chunk(1, 13_631_488, &LEAF_ITEMS[224..303]).is_none());
-    assert!(rt; read_chunk(1, u64::MAX - 8_388_607, &LEAF_ITEMS[224..304]).is_none());
-    assert!(rt; read_chunk(1, u64::MAX - 8_388_608, &LEAF_ITEMS[224..304]).is_some());
-    assert!(rt; read_array_chunk(1, &ARRAY, 1).is_none());
+    let twice = leaf_of(&ARRAY);
+    assert!(rt; read_leaf_chunk(1, &twice[..126 + 112], 0).is_some());
+    assert!(rt; read_leaf_chunk(1, &twice[..126 + 111], 0).is_none());
+    assert!(rt; read_leaf_chunk(2, &twice, 0).is_none());
+    let once = leaf_of(&SINGLE_ARRAY);
+    assert!(rt; read_leaf_chunk(1, &once[..126 + 80], 0).is_some());
+    assert!(rt; read_leaf_chunk(1, &once[..126 + 79], 0).is_none());
+    assert!(rt; read_leaf_chunk(1, &leaf_of(&ARRAY[1..]), 0).is_none());
+    assert!(rt; read_leaf_chunk(1, &moved(u64::MAX - 8_388_607), 1).is_none());
+    assert!(rt; read_leaf_chunk(1, &moved(u64::MAX - 8_388_608), 1).is_some());
 }

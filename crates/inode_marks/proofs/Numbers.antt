@@ -1,5 +1,5 @@
 -- The number that an inode tells is the one with which its checksum is right.
-use Rattle.std.proofs.Common.{◌≡◌, ℕ, ◌+◌, ◌-◌, ◌<◌, zero, suc, List, [], ◌∷◌, ◌++◌, Some, None, Bool, true, false, ◌&&◌, ◌==◌, sym, ap, ◌∙◌, arith, ◌^◌, take, drop, bit_xor, inl, inr}
+use Rattle.std.proofs.Common.{◌≡◌, ℕ, ◌+◌, ◌-◌, ◌<◌, zero, suc, List, [], ◌∷◌, ◌++◌, Some, true, ◌==◌, sym, ap, ◌∙◌, arith, ◌^◌, take, drop, bit_xor, inl, inr}
 use Rattle.std.specs.Prelude.{slice_range}
 use Rattle.std.specs.Int.{to_le_bytes, w32}
 use Rattle.std.proofs.lemmas.Bool.{cases_eq}
@@ -103,10 +103,6 @@ inode_by_number seed s at n hs hn ht bytes extra = elim (cases_eq (told_number s
       grind (arith, nat_tests))
 ]
 
-pub no_inode : (seed : ℕ) (s : List ℕ) (at n : ℕ) → has_extra s at ≡ false → false ≡ is_inode seed s at n
-unfolding is_inode
-no_inode seed s at n e = sym (ap (λ (t : Bool). t && (register_after (register_after seed (to_le_bytes w32 n)) (after_number s at) == stored_checksum s at)) e)
-
 -- a pair has the number that its first inode tells
 pub first_told : (seed inodes : ℕ) (s : List ℕ) (n : ℕ) → seed < 2 ^ 32 → n < 2 ^ 32 → AreBytes s → is_pair seed inodes s n ≡ true → n ≡ told_number seed s 0
 unfolding is_pair is_inode
@@ -119,8 +115,3 @@ unfolding inode_pair
 only_pair seed inodes s n t hs hn bytes =
     let e : n ≡ told_number seed s 0 = first_told seed inodes s n hs hn bytes t in
     grind arith
-
--- where the first is no inode of a whole checksum there is no pair
-pub no_pair : (seed inodes : ℕ) (s : List ℕ) → has_extra s 0 ≡ false → inode_pair seed inodes s ≡ None
-unfolding inode_pair is_pair is_inode
-no_pair seed inodes s e = grind (arith, nat_tests)

@@ -78,11 +78,6 @@ group_of tables number = (number - 1) / tables.group_inodes
 unfoldable pub index_of : InodeTables → ℕ → ℕ
 index_of tables number = (number - 1) % tables.group_inodes
 
--- the byte of the volume at which the descriptor of a group begins: the descriptors stand in the blocks after the one that has the
--- superblock, which begins at byte 1,024
-unfoldable pub descriptor_byte : InodeTables → ℕ → ℕ
-descriptor_byte tables group = (1024 / tables.block + 1) * tables.block + group * tables.descriptor
-
 -- the block of the volume at which the inodes of a group begin, by the descriptor at a byte of a sector
 unfoldable pub table_block : InodeTables → List ℕ → ℕ → ℕ
 table_block tables s at =

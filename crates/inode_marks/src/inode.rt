@@ -6,6 +6,12 @@ ghost use Rattle.inode_marks.specs.Inode.{after_number, has_extra, any_pair, are
 
 use sector_fields::{SECTOR, u16_le};
 
+/// An inode that has its number in its checksum uses at least so many bytes of its second half.
+pub const LEAST_EXTRA: u16 = 4;
+
+/// The most that it uses of them: all.
+pub const MOST_EXTRA: u16 = 128;
+
 /// The bytes of an inode.
 const INODE: usize = 256;
 
@@ -30,9 +36,11 @@ pub struct InodePair {
 /// first 128 do not reach its checksum's upper half, pass its end or are no multiple of four; or numbers that follow each
 /// other in no file system, or of which the second is no multiple of 32.
 ///
-/// So two inodes count exactly where such a number and a seed are: `only` and `some`. Which they are in a file system is
-/// then what [`read_pair`] says of the sector: `numbers`.
-#[tactic(auto, unfolding(crate::specs::Inode::any_pair, crate::specs::Inode::are_beside), using(crate::proofs::Beside::only_beside, crate::proofs::Beside::some_beside, crate::proofs::Beside::same_number))]
+/// So two inodes count exactly where such a number and a seed are: `only` and `some`. Which they are in a file system
+/// [`InodePair::number`] says: `numbers`, and of two of it that is the number of the first: `first`. Two inodes of another
+/// file system may be told to have numbers that follow each other too: those that they have there, with the difference of
+/// the seeds added. They count where these are not past the last inode here.
+#[tactic(auto, unfolding(crate::specs::Inode::any_pair, crate::specs::Inode::are_beside), using(crate::proofs::Beside::only_beside, crate::proofs::Beside::some_beside, crate::proofs::Beside::same_number, crate::proofs::Numbers::only_pair))]
 pub fn read_any_pair(sector: &[u8; SECTOR]) -> Option<InodePair>
     ensures pair { result ≡ any_pair sector.now }
     ensures only { (seed n : ℕ) → seed < 2 ^ 32 → n + 1 < 2 ^ 32 → (n + 1) % 32 ≡ 0
@@ -42,6 +50,8 @@ pub fn read_any_pair(sector: &[u8; SECTOR]) -> Option<InodePair>
         × (is_inode seed sector.now 0 n ≡ true) × (is_inode seed sector.now 256 (n + 1) ≡ true)) }
     ensures numbers { IfSome result (λ pair. (seed inodes : ℕ) → seed < 2 ^ 32 → inodes < 2 ^ 32
         → pair_number seed inodes pair ≡ inode_pair seed inodes sector.now) }
+    ensures first { (seed inodes n : ℕ) → seed < 2 ^ 32 → n < 2 ^ 32
+        → is_pair seed inodes sector.now n ≡ true → inode_pair seed inodes sector.now ≡ Some n }
 {
     if !has_extra(sector, 0) || !has_extra(sector, INODE) {
         return None;
@@ -80,49 +90,6 @@ impl InodePair {
     }
 }
 
-/// The number of the first of two inodes of 256 bytes that the sector holds (Linux kernel, ext4 Data Structures and
-/// Algorithms, Inode Table), in the file system whose checksums begin with `seed` and which has `inodes`. None where it
-/// holds no two: an inode whose bytes past the first 128 do not reach its checksum's upper half, pass its end or are no
-/// multiple of four; numbers that do not follow each other, or of which the second is past the last inode; or a first
-/// number that is even, for tables begin with an odd one.
-///
-/// Two inodes of another file system may be told to have numbers that follow each other too: those that they have there,
-/// with the difference of the seeds added. They count where these are not past the last inode here.
-#[tactic(auto, unfolding(crate::specs::Inode::inode_pair), using(crate::proofs::Numbers::only_pair, crate::proofs::Numbers::no_pair))]
-pub fn read_pair(seed: u32, inodes: u32, sector: &[u8; SECTOR]) -> Option<u32>
-    ensures pair { result ≡ inode_pair seed inodes sector.now }
-    ensures only { (n : ℕ) → n < 2 ^ 32 → is_pair seed inodes sector.now n ≡ true → result ≡ Some n }
-{
-    if !has_extra(sector, 0) {
-        return None;
-    }
-    let first = told_number(seed, sector, 0);
-    if is_pair(seed, inodes, sector, first) {
-        Some(first)
-    } else {
-        None
-    }
-}
-
-/// Whether the sector holds the inode with the number, and the one after it.
-#[tactic(auto, unfolding(crate::specs::Inode::is_pair))]
-fn is_pair(seed: u32, inodes: u32, sector: &[u8; SECTOR], number: u32) -> bool
-    ensures { result ≡ is_pair seed inodes sector.now number }
-{
-    number % 2 == 1
-        && number < inodes
-        && is_inode(seed, sector, 0, number)
-        && is_inode(seed, sector, INODE, number + 1)
-}
-
-/// Whether the inode at a byte has the number.
-fn is_inode(seed: u32, sector: &[u8; SECTOR], at: usize, number: u32) -> bool
-    requires { at + 256 ≤ SECTOR }
-    ensures { result ≡ is_inode seed sector.now at number }
-{
-    has_extra(sector, at) && told_number(seed, sector, at) == number
-}
-
 /// Whether the inode at a byte uses bytes past its first 128 as an inode with a whole checksum may.
 #[tactic(auto, unfolding(crate::specs::Inode::has_extra))]
 fn has_extra(sector: &[u8; SECTOR], at: usize) -> bool
@@ -130,7 +97,7 @@ fn has_extra(sector: &[u8; SECTOR], at: usize) -> bool
     ensures { result ≡ has_extra sector.now at }
 {
     let extra = u16_le(sector, at + 128);
-    4 <= extra && extra <= 128 && extra % 4 == 0
+    LEAST_EXTRA <= extra && extra <= MOST_EXTRA && extra % 4 == 0
 }
 
 /// The number with which the checksum of the inode at a byte is right.

@@ -3,7 +3,7 @@
 ghost use Rattle.std.specs.Prelude.{◌≡◌, ◌+◌, ◌*◌, ◌/◌, ◌<◌, ◌≤◌, ◌^◌, ◌++◌, [], ◌∷◌, IfSome, IsTrue, slice_range};
 ghost use Rattle.crc32c.specs.Register.{register_after};
 ghost use Rattle.std.specs.Int.{to_le_bytes, w32};
-ghost use Rattle.inode_marks.specs.Tables.{has_inode_form, has_one_table, is_whole, has_feature, are_descriptors, copied_place, copied_sector, copied_tables, descriptor_byte, descriptor_bytes, descriptor_register, descriptors_behind, group_of, has_group, has_tables, index_of, inode_sector, inode_table, inode_tables, is_descriptor, is_sound, sector_groups, seed_of, table_block, tables_of};
+ghost use Rattle.inode_marks.specs.Tables.{has_inode_form, has_one_table, is_whole, has_feature, are_descriptors, copied_place, copied_sector, copied_tables, descriptor_bytes, descriptor_register, descriptors_behind, group_of, has_group, has_tables, index_of, inode_sector, inode_table, inode_tables, is_descriptor, is_sound, sector_groups, seed_of, table_block, tables_of};
 
 use sector_fields::{SECTOR, u16_le, u32_le, uuid_at};
 use uuid::Uuid;
@@ -28,9 +28,6 @@ const WIDE_BLOCKS: u32 = 0x80;
 const CSUM_SEED: u32 = 0x2000;
 
 const METADATA_CSUM: u32 = 0x400;
-
-/// The place of the superblock in its volume, in bytes.
-const SUPERBLOCK: u32 = 1024;
 
 /// The blocks that a table of inodes may begin with are below this.
 const BLOCK_LIMIT: u64 = 1 << 47;
@@ -62,13 +59,9 @@ pub struct InodeTables {
     pub descriptor: u16,
 }
 
-/// What the superblock in two sectors says (Linux kernel, ext4 Data Structures and Algorithms, Super Block). None where
-/// they hold none of a file system whose inodes have 256 bytes and checksums: another magic number; a block size above
-/// 65,536; fewer than 8 inodes in a group, or no multiple of 8; a revision that is not 1; inodes of another size; the
-/// feature `meta_bg`; none of the feature `metadata_csum`, or another checksum than CRC-32C; descriptors of another
-/// size than 32 or 64 bytes; or a wrong checksum.
+/// What the superblock in two sectors says, as [`read_copy`] has it.
 #[tactic(auto, unfolding(crate::specs::Tables::inode_tables))]
-pub fn read_tables(first: &[u8; SECTOR], second: &[u8; SECTOR]) -> Option<InodeTables>
+fn read_tables(first: &[u8; SECTOR], second: &[u8; SECTOR]) -> Option<InodeTables>
     ensures tables { result ≡ inode_tables first.now second.now }
     ensures within { IfSome result (λ x. IsTrue (is_sound x)) }
 {
@@ -82,7 +75,7 @@ pub fn read_tables(first: &[u8; SECTOR], second: &[u8; SECTOR]) -> Option<InodeT
 /// The block of the volume at which the inodes of the group begin, by its descriptor at a byte of the sector. None where
 /// the checksum is not that of this group's descriptor, or the block is 2^47 or later.
 #[tactic(auto, unfolding(crate::specs::Tables::inode_table), using(crate::proofs::Limits::block_near))]
-pub fn read_table(tables: &InodeTables, group: u32, sector: &[u8; SECTOR], at: usize) -> Option<u64>
+fn read_table(tables: &InodeTables, group: u32, sector: &[u8; SECTOR], at: usize) -> Option<u64>
     requires sound { IsTrue (is_sound tables.now) }
     requires room { at + tables.now.descriptor ≤ SECTOR }
     ensures table { result ≡ inode_table tables.now group sector.now at }
@@ -95,7 +88,11 @@ pub fn read_table(tables: &InodeTables, group: u32, sector: &[u8; SECTOR], at: u
     }
 }
 
-/// What the copy of a superblock says that begins the sectors, as [`read_tables`] reads it.
+/// What the copy of a superblock says that begins the sectors (Linux kernel, ext4 Data Structures and Algorithms, Super
+/// Block). None where they begin with none of a file system whose inodes have 256 bytes and checksums: another magic
+/// number; a block size above 65,536; fewer than 8 inodes in a group, or no multiple of 8; a revision that is not 1; inodes
+/// of another size; the feature `meta_bg`; none of the feature `metadata_csum`, or another checksum than CRC-32C;
+/// descriptors of another size than 32 or 64 bytes; or a wrong checksum.
 #[tactic(auto, unfolding(crate::specs::Tables::copied_tables))]
 pub fn read_copy(copy: &[u8; COPY_BYTES]) -> Option<InodeTables>
     ensures tables { result ≡ copied_tables copy.now }
@@ -116,7 +113,7 @@ fn copied_sector(copy: &[u8; COPY_BYTES], sector: usize) -> &[u8; SECTOR]
 impl InodeTables {
     /// The group of an inode. The number of an inode is at least 1.
     #[tactic(auto, unfolding(crate::specs::Tables::is_sound, crate::specs::Tables::group_of))]
-    pub fn group(&self, number: u32) -> u32
+    fn group(&self, number: u32) -> u32
         requires sound { IsTrue (is_sound self.now) }
         requires numbered { 1 ≤ number }
         ensures { result ≡ group_of self.now number }
@@ -126,7 +123,7 @@ impl InodeTables {
 
     /// The place of an inode in the table of its group, from 0 on.
     #[tactic(auto, unfolding(crate::specs::Tables::is_sound, crate::specs::Tables::index_of))]
-    pub fn index(&self, number: u32) -> u32
+    fn index(&self, number: u32) -> u32
         requires sound { IsTrue (is_sound self.now) }
         requires numbered { 1 ≤ number }
         ensures { result ≡ index_of self.now number }
@@ -134,19 +131,10 @@ impl InodeTables {
         (number - 1) % self.group_inodes
     }
 
-    /// The byte of the volume at which the descriptor of a group begins.
-    #[tactic(auto, unfolding(crate::specs::Tables::is_sound, crate::specs::Tables::descriptor_byte))]
-    pub fn descriptor_byte(&self, group: u32) -> u64
-        requires { IsTrue (is_sound self.now) }
-        ensures { result ≡ descriptor_byte self.now group }
-    {
-        ((SUPERBLOCK / self.block + 1) * self.block) as u64 + group as u64 * self.descriptor as u64
-    }
-
     /// The sector of the volume at which an inode lies, where the table of its group begins with `table`. It is below
     /// 2^55.
     #[tactic(auto, unfolding(crate::specs::Tables::is_sound, crate::specs::Tables::inode_sector))]
-    pub fn inode_sector(&self, table: u64, number: u32) -> u64
+    fn inode_sector(&self, table: u64, number: u32) -> u64
         requires sound { IsTrue (is_sound self.now) }
         requires placed { table < 2 ^ 47 }
         requires numbered { 1 ≤ number }

@@ -1,6 +1,5 @@
 //! Inodes of ext4 and their tables, and what makes no pair of inodes.
-ghost use Rattle.std.specs.Prelude.{◌<◌, ◌≤◌, IsTrue};
-ghost use Rattle.inode_marks.specs.Tables.{is_sound};
+ghost use Rattle.std.specs.Prelude.{◌≤◌};
 
 use crate::ext_sectors::{
     NARROW_DESCRIPTORS, NARROW_FIRST, NARROW_SECOND, SEEDED_DESCRIPTORS, SEEDED_FIRST,
@@ -9,7 +8,7 @@ use crate::ext_sectors::{
 };
 use crate::sectors::{MADE, turned};
 use crc32c::after;
-use inode_marks::{InodeTables, read_any_pair, read_pair, read_table, read_tables};
+use inode_marks::{COPY_BYTES, read_any_pair, read_copy};
 
 // The seed that `dumpe2fs` prints.
 const SEED: u32 = 0x688c_b585;
@@ -17,86 +16,73 @@ const SEED: u32 = 0x688c_b585;
 // The inodes that `dumpe2fs` prints of all of them.
 const INODES: u32 = 16_384;
 
-// The first half of one sector, and the second of another.
-fn halves(mut first: [u8; 512], second: &[u8; 512]) -> [u8; 512] {
-    first[256..].copy_from_slice(&second[256..]);
-    first
-}
-
-// The sector with its halves changed over.
-fn changed_over(sector: &[u8; 512]) -> [u8; 512] {
-    let mut other = [0; 512];
-    other[..256].copy_from_slice(&sector[256..]);
-    other[256..].copy_from_slice(&sector[..256]);
-    other
-}
-
-// What a descriptor at a byte of a sector says, if it ends in the sector.
-fn table_at(tables: &InodeTables, group: u32, sector: &[u8; 512], at: usize) -> Option<u64>
-    requires sound { IsTrue (is_sound tables.now) }
-    requires within { at ≤ 512 }
-{
-    if at + tables.descriptor as usize <= 512 {
-        read_table(tables, group, sector, at)
-    } else {
-        None
+// A superblock of two sectors, and a sector of descriptors from a byte on.
+fn copy_of(
+    first: &[u8; 512],
+    second: &[u8; 512],
+    descriptors: &[u8; 512],
+    from: usize,
+) -> [u8; COPY_BYTES] {
+    let mut copy = [0; COPY_BYTES];
+    copy[..512].copy_from_slice(first);
+    copy[512..1024].copy_from_slice(second);
+    for (to, byte) in copy.iter_mut().skip(from).zip(descriptors) {
+        *to = *byte;
     }
+    copy
 }
 
+// Where an inode lies by the copy, if that is one.
+fn place_in(copy: &[u8; COPY_BYTES], number: u32) -> Option<u64>
+    requires { 1 ≤ number }
+{
+    read_copy(copy)?.copied_place(copy, number)
+}
+
+// Inodes 257 and 258, 13 and 14, and four of 128 bytes: the second of no two has a number that is a multiple of 32.
 #[test]
-fn numbers_of_debugfs(rt: HostRuntime) {
-    let seed = after(u32::MAX, &MADE);
-    assert!(rt; read_pair(seed, INODES, &SMALL_INODES) == Some(257));
-    assert!(rt; read_pair(SEED, INODES, &SEEDED_INODES) == Some(13));
+fn pairs_that_do_not_count(rt: HostRuntime) {
     assert!(rt; read_any_pair(&SMALL_INODES).is_none() && read_any_pair(&SEEDED_INODES).is_none());
-}
-
-#[test]
-fn no_pairs(rt: HostRuntime) {
-    let seed = after(u32::MAX, &MADE);
-    let other = after(u32::MAX, &[0x11; 16]);
-    assert!(rt; read_pair(other, INODES, &SMALL_INODES).is_none());
-    assert!(rt; read_pair(seed, 258, &SMALL_INODES) == Some(257));
-    assert!(rt; read_pair(seed, 257, &SMALL_INODES).is_none());
-    assert!(rt; read_pair(seed, INODES, &changed_over(&SMALL_INODES)).is_none());
-    assert!(rt; read_pair(seed, INODES, &halves(SMALL_INODES, &SEEDED_INODES)).is_none());
-    assert!(rt; read_pair(seed, INODES, &halves(SMALL_INODES, &SMALL_FIRST)).is_none());
-    assert!(rt; read_pair(seed, INODES, &turned(SMALL_INODES, 124)).is_none());
-    assert!(rt; read_pair(seed, INODES, &turned(SMALL_INODES, 511)).is_none());
-    assert!(rt; read_pair(seed, INODES, &[0; 512]).is_none());
-    assert!(rt; read_pair(seed, INODES, &SHORT_INODES).is_none());
+    assert!(rt; read_any_pair(&SHORT_INODES).is_none());
 }
 
 #[test]
 fn tables_of_dumpe2fs(rt: HostRuntime) {
-    match read_tables(&SMALL_FIRST, &SMALL_SECOND) {
+    let copy = copy_of(&SMALL_FIRST, &SMALL_SECOND, &SMALL_DESCRIPTORS, 1024);
+    match read_copy(&copy) {
         Some(tables) => {
             assert!(rt;
                 tables.block == 1024 && tables.group_inodes == 2048 && tables.descriptor == 64
             );
-            assert!(rt; tables.seed == after(u32::MAX, &MADE));
-            assert!(rt; table_at(&tables, 0, &SMALL_DESCRIPTORS, 0) == Some(275));
-            assert!(rt; table_at(&tables, 1, &SMALL_DESCRIPTORS, 64) == Some(787));
-            assert!(rt; table_at(&tables, 3, &SMALL_DESCRIPTORS, 192) == Some(1811));
-            assert!(rt; table_at(&tables, 2, &SMALL_DESCRIPTORS, 64).is_none());
-            assert!(rt; table_at(&tables, 1, &turned(SMALL_DESCRIPTORS, 72), 64).is_none());
-            assert!(rt; tables.descriptor_byte(1) == 2048 + 64);
-            assert!(rt; tables.inode_sector(275, 257) == 678);
-            assert!(rt; tables.group(2048) == 0 && tables.group(2049) == 1);
-            assert!(rt; tables.inode_sector(787, 2049) == 1574);
+            assert!(rt; tables.seed == after(u32::MAX, &MADE) && tables.inodes == INODES);
+            assert!(rt; tables.copied_place(&copy, 1) == Some(2 * 275));
+            assert!(rt; tables.copied_place(&copy, 257) == Some(678));
+            assert!(rt; tables.copied_place(&copy, 2048) == Some(2 * 275 + 1023));
+            assert!(rt; tables.copied_place(&copy, 2049) == Some(1574));
+            assert!(rt; tables.copied_place(&copy, 6145) == Some(2 * 1811));
         }
         None => assert!(rt; false, "no tables"),
     }
 }
 
+// Descriptors of other groups, and one of which a byte is turned.
+#[test]
+fn no_places(rt: HostRuntime) {
+    let shifted = copy_of(&SMALL_FIRST, &SMALL_SECOND, &SMALL_DESCRIPTORS, 1024 + 64);
+    assert!(rt; read_copy(&shifted).is_some() && place_in(&shifted, 257).is_none());
+    let other = turned(SMALL_DESCRIPTORS, 72);
+    let copy = copy_of(&SMALL_FIRST, &SMALL_SECOND, &other, 1024);
+    assert!(rt; read_copy(&copy).is_some() && place_in(&copy, 257).is_none());
+}
+
 #[test]
 fn tables_with_a_seed_of_their_own(rt: HostRuntime) {
-    match read_tables(&SEEDED_FIRST, &SEEDED_SECOND) {
+    let copy = copy_of(&SEEDED_FIRST, &SEEDED_SECOND, &SEEDED_DESCRIPTORS, 4096);
+    match read_copy(&copy) {
         Some(tables) => {
             assert!(rt; tables.seed == SEED && tables.block == 4096);
-            assert!(rt; table_at(&tables, 0, &SEEDED_DESCRIPTORS, 0) == Some(41));
-            assert!(rt; tables.descriptor_byte(0) == 4096);
-            assert!(rt; tables.inode_sector(41, 13) == 334);
+            assert!(rt; tables.copied_place(&copy, 1) == Some(8 * 41));
+            assert!(rt; tables.copied_place(&copy, 13) == Some(334));
         }
         None => assert!(rt; false, "no tables"),
     }
@@ -104,22 +90,28 @@ fn tables_with_a_seed_of_their_own(rt: HostRuntime) {
 
 #[test]
 fn tables_of_short_descriptors(rt: HostRuntime) {
-    match read_tables(&NARROW_FIRST, &NARROW_SECOND) {
+    let copy = copy_of(&NARROW_FIRST, &NARROW_SECOND, &NARROW_DESCRIPTORS, 1024);
+    match read_copy(&copy) {
         Some(tables) => {
-            assert!(rt; tables.descriptor == 32);
-            assert!(rt; table_at(&tables, 0, &NARROW_DESCRIPTORS, 0) == Some(274));
-            assert!(rt; table_at(&tables, 3, &NARROW_DESCRIPTORS, 96) == Some(1810));
-            assert!(rt; table_at(&tables, 2, &NARROW_DESCRIPTORS, 96).is_none());
+            assert!(rt; tables.descriptor == 32 && tables.group_inodes == 2048);
+            assert!(rt; tables.copied_place(&copy, 1) == Some(2 * 274));
+            assert!(rt; tables.copied_place(&copy, 6145) == Some(2 * 1810));
         }
         None => assert!(rt; false, "no tables"),
     }
 }
 
+// Whether the two sectors are read as a superblock.
+fn is_read(first: &[u8; 512], second: &[u8; 512]) -> bool {
+    read_copy(&copy_of(first, second, &[0; 512], 1024)).is_some()
+}
+
 #[test]
 fn no_tables(rt: HostRuntime) {
-    assert!(rt; read_tables(&SHORT_FIRST, &SHORT_SECOND).is_none());
-    assert!(rt; read_tables(&SPREAD_FIRST, &SPREAD_SECOND).is_none());
-    assert!(rt; read_tables(&SMALL_FIRST, &SEEDED_SECOND).is_none());
-    assert!(rt; read_tables(&turned(SMALL_FIRST, 8), &SMALL_SECOND).is_none());
-    assert!(rt; read_tables(&[0; 512], &[0; 512]).is_none());
+    assert!(rt; is_read(&SMALL_FIRST, &SMALL_SECOND) && is_read(&SEEDED_FIRST, &SEEDED_SECOND));
+    assert!(rt; !is_read(&SHORT_FIRST, &SHORT_SECOND));
+    assert!(rt; !is_read(&SPREAD_FIRST, &SPREAD_SECOND));
+    assert!(rt; !is_read(&SMALL_FIRST, &SEEDED_SECOND));
+    assert!(rt; !is_read(&turned(SMALL_FIRST, 8), &SMALL_SECOND));
+    assert!(rt; !is_read(&[0; 512], &[0; 512]));
 }

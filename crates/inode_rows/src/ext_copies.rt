@@ -1,6 +1,7 @@
 //! Copies of superblocks of ext4 with the descriptors behind them, and inodes beside each other, of file systems that
 //! `mke2fs` made of a folder with 60 files. Numbers and places are those that `debugfs` prints.
 
+use crate::sectors::turned;
 use inode_marks::{COPY_BYTES, read_any_pair, read_copy};
 
 type Field = (usize, &'static [u8]);
@@ -280,4 +281,26 @@ fn pairs_without_a_seed(rt: HostRuntime) {
     changed[511] ^= 1;
     assert!(rt; read_any_pair(&changed).is_none());
     assert!(rt; read_any_pair(&[0; 512]).is_none());
+}
+
+// The first half of one sector, and the second of another.
+fn halves(first: &[u8; 512], second: &[u8; 512]) -> [u8; 512] {
+    let mut both = *first;
+    both[256..].copy_from_slice(&second[256..]);
+    both
+}
+
+// The inodes of a sector changed over, and with one of another file system, of none, or with a byte turned.
+#[test]
+fn no_pairs(rt: HostRuntime) {
+    let copy = copy_of(SMALL_COPY);
+    let pair = sector_of(SMALL_PAIR);
+    let mut over = [0; 512];
+    over[..256].copy_from_slice(&pair[256..]);
+    over[256..].copy_from_slice(&pair[..256]);
+    assert!(rt; told(&copy, &pair) == Some((31, 25)) && told(&copy, &over).is_none());
+    assert!(rt; told(&copy, &halves(&pair, &sector_of(SEEDED_PAIR))).is_none());
+    assert!(rt; told(&copy, &halves(&pair, &[0; 512])).is_none());
+    assert!(rt; told(&copy, &turned(pair, 124)).is_none());
+    assert!(rt; told(&copy, &turned(pair, 511)).is_none());
 }

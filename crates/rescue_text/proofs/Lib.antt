@@ -4,3 +4,4 @@ pub mod Reading
 pub mod Covered
 pub mod Bisected
 pub mod Sound
+pub mod Rising

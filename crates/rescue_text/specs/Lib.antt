@@ -1,3 +1,4 @@
 pub mod Lines
 pub mod RescueText
 pub mod Good
+pub mod Laws

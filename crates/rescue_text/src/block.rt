@@ -36,7 +36,7 @@ pub struct Block {
 /// for any other line.
 ///
 /// Source: the data blocks of the map file of GNU ddrescue.
-pub fn read_block(line: &[u8]) -> Option<Block>
+pub(crate) fn read_block(line: &[u8]) -> Option<Block>
     ensures { result ≡ block line.now }
 {
     let (start, after_start) = first_word(line);
@@ -63,7 +63,7 @@ fn block_of_size(start: u64, size: u64, status: Status) -> Option<Block>
 }
 
 /// The status that a word names, one sign. `None` for any other word.
-pub fn read_status(word: &[u8]) -> Option<Status>
+fn read_status(word: &[u8]) -> Option<Status>
     ensures { result ≡ status word.now }
 {
     match word {

@@ -8,7 +8,7 @@ ghost use Rattle.rescue_text.specs.Lines.{decimal_number, number, numeral};
 /// case, leading zeros and all. `None` for any other text, and for a number from 2 to the power 64 on.
 ///
 /// Source: the positions and sizes of the map file of GNU ddrescue.
-pub fn read_number(text: &[u8]) -> Option<u64>
+pub(crate) fn read_number(text: &[u8]) -> Option<u64>
     ensures { result ≡ number text.now }
 {
     match text {

@@ -6,3 +6,4 @@ pub mod Ended
 pub mod Finished
 pub mod Said
 pub mod Tabled
+pub mod Parts

@@ -6,7 +6,7 @@
 //!
 //! Which lines these are stands in `specs/Reports`, runs in `specs/Runs`, the sets of a row in `specs/Sets`, their order in
 //! `specs/Shared`, how a line is written in `specs/Text`, and the table of a row, computed, in `specs/Tables`. [`laws`] says that
-//! what a report puts row by row is the report of all rows.
+//! what a report puts row by row is the report of all rows, and that the parts of a row are what its ties connect.
 #![tactic(auto)]
 
 pub mod laws;

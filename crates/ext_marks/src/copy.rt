@@ -7,8 +7,8 @@ ghost use Rattle.sector_fields.specs.Fields.{u32_le};
 use sector_fields::{SECTOR, u16_le, u32_le, uuid_at};
 use uuid::Uuid;
 
-/// The number that marks a superblock.
-const MAGIC: u16 = 0xEF53;
+/// The number that marks a superblock: at its byte 56.
+pub const MAGIC: u16 = 0xEF53;
 
 /// The bytes of a block whose code is 0. Each code more doubles them.
 const SMALLEST_BLOCK: u32 = 1024;

@@ -8,4 +8,4 @@ mod copy;
 
 // The tests stand in `mark_rows`.
 
-pub use copy::{ExtSuper, read_ext};
+pub use copy::{ExtSuper, MAGIC, read_ext};

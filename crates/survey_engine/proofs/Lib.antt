@@ -21,3 +21,4 @@ pub mod Leaves
 pub mod Descriptors
 pub mod Sizes
 pub mod Told
+pub mod NewerLeaves

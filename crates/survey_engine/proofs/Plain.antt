@@ -1,5 +1,5 @@
 -- A sector that is no landmark by a few of its bytes.
-use Rattle.std.proofs.Common.{◌≡◌, ◌≢◌, ◌≤◌, ◌<◌, ℕ, List, [], Bool, true, false, cond, Some, None, refl, sym, ◌∙◌, arith, slice_index, ◌&&◌, ◌||◌, nat_le, nat_lt, ◌==◌, not}
+use Rattle.std.proofs.Common.{◌≡◌, ◌≢◌, ◌<◌, ℕ, List, [], false, None, refl, arith, slice_index}
 use Rattle.std.proofs.lemmas.Bool.Decides.{nat_tests}
 use Rattle.sector_fields.specs.Fields.{u16_le, u64_le}
 use Rattle.btrfstree.specs.Header.{is_block, is_counted, tree_block}

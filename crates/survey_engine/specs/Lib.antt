@@ -6,6 +6,7 @@ pub mod Stretches
 pub mod Sightings
 pub mod Blocks
 pub mod Telling
+pub mod Newest
 pub mod Sizing
 pub mod Owners
 pub mod Origins

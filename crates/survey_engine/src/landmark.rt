@@ -7,9 +7,9 @@ ghost use Rattle.inode_marks.specs.Inode.{has_extra};
 ghost use Rattle.survey_engine.specs.Landmarks.{front_in, has_inodes, head_in, inner_in, inode_in, is_asked, kind_of, landmark_in, last_in, is_own, record_or_label_in, start_in, super_in, super_of, table_in, untold, IsSound};
 
 use btrfstree::{TreeBlock, read_block};
-use ext_marks::{ExtSuper, read_ext};
+use ext_marks::{ExtSuper, MAGIC as EXT_MAGIC, read_ext};
 use gpt_marks::{GptHeader, own_table, read_header};
-use inode_marks::{InodePair, read_any_pair};
+use inode_marks::{InodePair, LEAST_EXTRA, MOST_EXTRA, read_any_pair};
 use landmark_rules::Kind;
 use mark_kinds::Kinds;
 use more_marks::{BtrfsSuper, read_btrfs, read_lvm};
@@ -17,18 +17,7 @@ use ntfs_marks::{NtfsBoot, NtfsRecord, read_boot, read_record};
 use sector_fields::{DISTANCE_LIMIT, SECTOR, u16_le, u64_le};
 use uuid::Uuid;
 use xfs_marks::{XfsGroup, XfsSuper, read_group, read_super};
-use xfs5::{XfsInode, XfsInodes, read_inode, read_inodes, read_start};
-
-/// The version of an inode of XFS that tells its number.
-const INODE_VERSION: u8 = 3;
-
-/// The number that marks a superblock of ext.
-const EXT_MAGIC: u16 = 0xEF53;
-
-/// An inode of ext4 that has its number in its checksum uses so many bytes of its second half, at least and at most.
-const LEAST_EXTRA: u16 = 4;
-
-const MOST_EXTRA: u16 = 128;
+use xfs5::{VERSION as INODE_VERSION, XfsInode, XfsInodes, read_inode, read_inodes, read_start};
 
 /// The bytes of the smallest inodes of XFS: such an inode stands in one sector.
 const SMALLEST: u16 = 512;

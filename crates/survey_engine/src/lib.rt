@@ -11,7 +11,8 @@
 //! image, and each sector once: `specs/Sweep`.
 //!
 //! A tree block of btrfs has its logical address alone. Where that lies is told by leaves of the tree of chunks, which are
-//! read after the sweep. An inode of ext4 has not even its number: that, and where the inode lies, is told by a copy of a
+//! read after the sweep, in any order: that the newest decide is the law [`newest_leaves_decide`]. An inode of ext4 has
+//! not even its number: that, and where the inode lies, is told by a copy of a
 //! superblock of ext and the descriptors behind it: `specs/Telling`. Of an inode of XFS of 1,024 or 2,048 bytes the sweep
 //! sees the first sector alone, and what lies past it is read then: `specs/Sizing`.
 //!
@@ -32,6 +33,7 @@ mod gathering;
 mod grouping;
 mod hints;
 mod landmark;
+mod newest;
 mod owner;
 mod planning;
 mod sighting;
@@ -42,6 +44,7 @@ mod telling;
 
 pub use ask::Ask;
 pub use excluding::no_sector_is_of_two_kinds;
+pub use newest::newest_leaves_decide;
 pub use planning::{SurveyFault, survey};
 pub use search_plan::{DropAt, Kinds};
 pub use stretches::no_mark_is_passed_over;

@@ -10,6 +10,9 @@ use uuid::Uuid;
 /// The register with which checksums begin.
 const ALL_ONES: u32 = 0xFFFF_FFFF;
 
+/// The version of an inode that tells its number: at its byte 4.
+pub const VERSION: u8 = 3;
+
 /// The most bytes of an inode.
 pub const LARGEST_INODE: usize = 2048;
 
@@ -82,7 +85,7 @@ fn is_inode(sector: &[u8; SECTOR], rest: &[u8]) -> bool
 fn begins_inode(sector: &[u8; SECTOR]) -> bool
     ensures { result ≡ begins_inode sector.now }
 {
-    has_bytes(sector, 0, b"IN") && sector[4] == 3
+    has_bytes(sector, 0, b"IN") && sector[4] == VERSION
 }
 
 /// The register that an inode leaves.

@@ -11,5 +11,7 @@ mod places;
 
 // The tests stand in `inode_rows`.
 
-pub use inode::{LARGEST_INODE, LARGEST_SECTORS, XfsInode, read_inode, read_larger, read_start};
+pub use inode::{
+    LARGEST_INODE, LARGEST_SECTORS, VERSION, XfsInode, read_inode, read_larger, read_start,
+};
 pub use places::{XfsInodes, read_inodes};

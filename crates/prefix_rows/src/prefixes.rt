@@ -1,10 +1,12 @@
 //! Which prefixes of slots two rows let begin a set. What is wanted was worked out by hand from the equations of the rows: each
 //! sector is a sum of generated ones, of which no sum is zeros.
 ghost use Rattle.std.specs.Prelude.{◌≡◌, IfOk, length};
+ghost use Rattle.std.specs.Bool.{Decides};
+ghost use Rattle.relation_prefix.specs.Ties.{AreThere};
 
 use gf256::mul;
 use raid_params::{Head, Level, Pattern, Syndrome};
-use relation_prefix::{HeadRelations, PrefixTest, RowTies, SampledRows, are_there};
+use relation_prefix::{HeadRelations, PrefixTest, RowTies, SampledRows};
 use row_relations::RowTable;
 use std::alloc::{AllocError, Global};
 use std::process::Abort;
@@ -106,6 +108,20 @@ fn both_kept<R: Abort>(
     keep(&mut kept, 1, &table)?;
     assert!(rt; kept.count() == 2);
     Ok(kept)
+}
+
+/// Whether each slot holds none or one of the first `images` images.
+fn are_there(images: usize, slots: &[Option<u8>]) -> bool
+    ensures { Decides result (AreThere images slots.now) }
+{
+    for slot in 0..slots.len() {
+        if let Some(image) = slots[slot] {
+            if image as usize >= images {
+                return false;
+            }
+        }
+    }
+    true
 }
 
 /// Looks whether two rows of four sectors let these slots begin a set, or do not.

@@ -35,7 +35,6 @@ mod whole;
 pub use condition::{Condition, MOST_TIES};
 pub use equation::Equation;
 pub use head_relations::HeadRelations;
-pub use pins::{allows, are_there};
 pub use row_ties::RowTies;
 pub use sampled::{PrefixTest, SampledRow};
 pub use sampled_rows::SampledRows;

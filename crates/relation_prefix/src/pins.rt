@@ -58,20 +58,6 @@ fn pin_slots(ties: &RowTies, system: &mut System, weights: &[u8], slots: &[Optio
     true
 }
 
-/// Whether each slot holds none or one of the first `images` images.
-pub fn are_there(images: usize, slots: &[Option<u8>]) -> bool
-    ensures { Decides result (AreThere images slots.now) }
-{
-    for slot in 0..slots.len() {
-        if let Some(image) = slots[slot] {
-            if image as usize >= images {
-                return false;
-            }
-        }
-    }
-    true
-}
-
 /// Whether the ties have values with which each image in a slot has the weight of its slot, and once there are all slots each
 /// other image 0.
 fn can_have_all(ties: &RowTies, members: usize, weights: &[u8], slots: &[Option<u8>]) -> bool
@@ -93,7 +79,7 @@ fn can_have_all(ties: &RowTies, members: usize, weights: &[u8], slots: &[Option<
 
 /// Whether some relation of the row may be an equation, where the slots of a set of so many members begin so. `weights` are the
 /// weights of these slots in this equation.
-pub fn allows(ties: &RowTies, members: usize, weights: &[u8], slots: &[Option<u8>]) -> bool
+pub(crate) fn allows(ties: &RowTies, members: usize, weights: &[u8], slots: &[Option<u8>]) -> bool
     requires ties { FitTies ties.now }
     requires weights { length slots.now ≤ length weights.now }
     requires members { length slots.now ≤ members }

@@ -44,16 +44,20 @@ later_sector head v j h =
     omega (arith, row, later_place head.chunk v j h)
 
 -- sectors of one chunk are sectors of the member that holds them
-pub chunk_run : (images : List (List ℕ)) (geo : Geometry) (v n : ℕ) → v % geo.head.chunk + n ≤ geo.head.chunk →
+home_run : (images : List (List ℕ)) (geo : Geometry) (v n : ℕ) → v % geo.head.chunk + n ≤ geo.head.chunk →
     run_of images geo (home_slot geo.head v) (home_sector geo.head v) n ≡ sectors_of images geo v n
 unfolding run_of sectors_of
-chunk_run images geo v n few =
+home_run images geo v n few =
     flat_shift (member_sector images geo (home_slot geo.head v)) (home_sector geo.head v) 0 n (home_sector geo.head v) (omega arith)
     ∙ flat_same (λ u. member_sector images geo (home_slot geo.head v) (home_sector geo.head v + u)) (λ u. volume_sector images geo (v + u)) 0 n
     (λ u low high.
     ap (λ (slot : ℕ). member_sector images geo slot (home_sector geo.head v + u)) (sym (same_slot geo.head v u (omega arith)))
     ∙ ap (λ (t : ℕ). member_sector images geo (home_slot geo.head (v + u)) t) (sym (later_sector geo.head v u (omega arith))))
     ∙ sym (flat_shift (volume_sector images geo) v 0 n v (omega arith))
+
+pub chunk_run : (images : List (List ℕ)) (geo : Geometry) (slot sector v n : ℕ) → LiesAt geo.head slot sector v → v % geo.head.chunk + n ≤ geo.head.chunk → run_of images geo slot sector n ≡ sectors_of images geo v n
+chunk_run images geo slot sector v n lies few =
+    ap (λ (s : ℕ). run_of images geo s sector n) lies.item.1 ∙ ap (λ (t : ℕ). run_of images geo (home_slot geo.head v) t n) lies.place ∙ home_run images geo v n few
 
 -- they are data
 pub run_data : (geo : Geometry) (slot sector v n : ℕ) → IsTestable geo → LiesAt geo.head slot sector v → v % geo.head.chunk + n ≤ geo.head.chunk → AreData geo slot sector n

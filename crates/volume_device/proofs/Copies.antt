@@ -1,17 +1,19 @@
 -- Sectors of a member, in the regions and where they were read.
-use Rattle.std.proofs.Common.{◌≡◌, ℕ, ◌+◌, ◌-◌, ◌*◌, ◌<◌, ◌≤◌, List, length, get_or, drop, Option, None, Some, IfSome, OnOk, Result, Ok, Err, false, sym, ap, ◌∙◌, arith, slice_index_or, slice_range}
+use Rattle.std.proofs.Common.{◌≡◌, ℕ, ◌+◌, ◌-◌, ◌*◌, ◌%◌, ◌<◌, ◌≤◌, List, length, get_or, drop, Option, None, Some, IfSome, OnOk, Result, Ok, Err, false, sym, ap, ◌∙◌, arith, slice_index_or, slice_range}
 use Rattle.std.specs.Option.{is_none}
 use Rattle.std.proofs.lemmas.List.{get_or-take, get_or-drop}
 use Rattle.std.proofs.lemmas.List.FromFn.{get_or-map-range_with_len}
 use Rattle.raid_params.specs.declared.types.Geometry.{Geometry}
+use Rattle.raid_terms.specs.Address.{LiesAt}
 use Rattle.raid_terms.specs.Parity.{member_byte}
 use Rattle.raid_terms.specs.Volume.{byte_in, member_sector}
 use Rattle.lost_members.specs.Needs.{HoldData}
 use Rattle.member_regions.proofs.Alike.{later_byte}
 use Rattle.member_regions.proofs.Solved.{held_byte}
 use Rattle.volume_device.specs.Lengths.{member_long}
-use Rattle.volume_device.specs.Sectors.{AreData, run_of}
+use Rattle.volume_device.specs.Sectors.{AreData, run_of, sectors_of}
 use Rattle.volume_device.proofs.Blocks.{blocks_are}
+use Rattle.volume_device.proofs.Chunks.{chunk_run}
 
 sector_byte : (images : List (List ℕ)) (geo : Geometry) (slot t x : ℕ) → x < 512 → byte_in images geo t slot x (slice_index_or geo.slots.items slot None) ≡ get_or (member_sector images geo slot t) x 0
 unfolding member_sector
@@ -49,11 +51,12 @@ run_read images geo slot sector n held to same there long bytes =
     ∙ ap (λ (o : Option ℕ). byte_in images geo (sector + j) slot x o) same
     ∙ sector_byte images geo slot (sector + j) x inside)
 
--- where it is known
-pub read_told : {T E : Type 0} (told : Option (List (List ℕ))) (geo : Geometry) (slot sector n : ℕ) (held : Option ℕ) (result : Result T E) (to : List ℕ) →
-    held ≡ slice_index_or geo.slots.items slot None → is_none held ≡ false → length to ≡ 512 * n →
+-- where it is known, and the run holds sectors of one chunk
+pub read_told : {T E : Type 0} (told : Option (List (List ℕ))) (geo : Geometry) (slot sector v n : ℕ) (held : Option ℕ) (result : Result T E) (to : List ℕ) → LiesAt geo.head slot sector v →
+    v % geo.head.chunk + n ≤ geo.head.chunk → held ≡ slice_index_or geo.slots.items slot None → is_none held ≡ false → length to ≡ 512 * n →
     OnOk result (IfSome told (λ bytes. (y : ℕ) → y < length to → is_none held ≡ false → get_or to y 0 ≡ member_byte bytes geo.head.offset sector y held)) →
-    OnOk result (IfSome told (λ bytes. to ≡ run_of bytes geo slot sector n))
-read_told told geo slot sector n held (Err e) to same there long bytes = tt
-read_told None geo slot sector n held (Ok v) to same there long bytes = tt
-read_told (Some images) geo slot sector n held (Ok v) to same there long bytes = run_read images geo slot sector n held to same there long bytes
+    OnOk result (IfSome told (λ bytes. to ≡ sectors_of bytes geo v n))
+read_told told geo slot sector v n held (Err e) to lies few same there long bytes = tt
+read_told None geo slot sector v n held (Ok r) to lies few same there long bytes = tt
+read_told (Some images) geo slot sector v n held (Ok r) to lies few same there long bytes =
+    run_read images geo slot sector n held to same there long bytes ∙ chunk_run images geo slot sector v n lies few

@@ -1,11 +1,14 @@
 -- What readings keep, one after the other.
-use Rattle.std.proofs.Common.{◌≡◌, ℕ, ◌+◌, ◌≤◌, List, refl, ◌∙◌, arith}
+use Rattle.std.proofs.Common.{◌≡◌, ℕ, ◌+◌, ◌%◌, ◌<◌, ◌≤◌, List, refl, ◌∙◌, arith}
 use Rattle.outside.proofs.Reading.{reads_join, reads_none, reads_up}
 use Rattle.outside.specs.Seen.{Image, Seen}
+use Rattle.raid_params.specs.Size.{volume_sectors}
 use Rattle.raid_params.specs.declared.types.Geometry.{Geometry}
+use Rattle.raid_terms.specs.Address.{LiesAt}
 use Rattle.virtual_volume.proofs.Sets.{served_held, served_testable}
 use Rattle.volume_device.specs.Kept.{CanKeep, CanRead, HasRead, IsKept}
 use Rattle.volume_device.specs.declared.kept.Kept.{Kept}
+use Rattle.volume_device.proofs.Chunks.{run_near}
 
 -- nothing happened
 pub read_none : (geo : Geometry) (seen : Seen) (memory : Kept) → IsKept seen.attached geo memory.regions memory.first memory.count → HasRead geo 0 seen seen memory memory
@@ -61,3 +64,8 @@ can_keep first count can few before = record {
   room = record { many = can.room.many; long = omega (arith, can.room.long, few) };
   kept = can.kept;
 }
+
+-- those that hold sectors of one chunk of the volume
+pub chunk_kept : {geo : Geometry} {end : ℕ} {attached : List Image} {memory : Kept} (slot sector v n : ℕ) → CanRead geo end geo.head.chunk attached memory →
+    LiesAt geo.head slot sector v → v < volume_sectors geo.head end → v % geo.head.chunk + n ≤ geo.head.chunk → CanKeep geo sector n attached memory
+chunk_kept slot sector v n can lies below few = can_keep sector n can (omega arith) (run_near _ _ v n _ slot sector can.set lies below few)

@@ -1,5 +1,5 @@
 -- What was read of a range so far, where the images are known.
-use Rattle.std.proofs.Common.{◌≡◌, ℕ, ◌+◌, ◌-◌, ◌*◌, ◌%◌, ◌≤◌, List, length, take, Option, None, Some, IfSome, OnOk, Result, Ok, Err, refl, sym, ap, ◌∙◌, arith, slice_range}
+use Rattle.std.proofs.Common.{◌≡◌, ℕ, ◌+◌, ◌-◌, ◌*◌, ◌≤◌, List, length, take, Option, None, Some, IfSome, OnOk, Result, Ok, Err, refl, sym, ap, ◌∙◌, arith, slice_range}
 use Rattle.std.specs.List.{flat_map, range_with_len}
 use Rattle.std.specs.Option.{option_map}
 use borrow.Rule.Slice.PartMut.{put_mid}
@@ -13,9 +13,8 @@ use Rattle.raid_params.specs.declared.types.Geometry.{Geometry}
 use Rattle.raid_terms.specs.Address.{home_sector, home_slot}
 use Rattle.raid_terms.specs.Volume.{volume, volume_sector}
 use Rattle.volume_device.specs.Lengths.{copy_long, member_long}
-use Rattle.volume_device.specs.Sectors.{run_of, sectors_of}
+use Rattle.volume_device.specs.Sectors.{sectors_of}
 use Rattle.volume_device.proofs.Blocks.{all_blocks, flat_on, flat_slice}
-use Rattle.volume_device.proofs.Chunks.{chunk_run}
 
 pub told_start : (told : Option (List (List ℕ))) (f : List (List ℕ) → ℕ → List ℕ) (first : ℕ) (to : List ℕ) → IfSome told (λ bytes. take (512 * 0) to ≡ flat_map (f bytes) (range_with_len first 0))
 told_start None f first to = tt
@@ -51,14 +50,6 @@ pub part_whole : (told : Option (List (List ℕ))) (geo : Geometry) (first at n 
     IfSome told (λ bytes. take (512 * at) to ≡ sectors_of bytes geo first at) → IfSome told (λ bytes. to ≡ sectors_of bytes geo first n)
 unfolding sectors_of
 part_whole told geo first at n to e long before = told_all_of told (λ images v. volume_sector images geo v) first at n to e long before
-
--- a run of the member that holds sectors of one chunk
-pub run_told : {T E : Type 0} (told : Option (List (List ℕ))) (geo : Geometry) (v n slot sector : ℕ) (result : Result T E) (to : List ℕ) → slot ≡ home_slot geo.head v → sector ≡ home_sector geo.head v →
-    v % geo.head.chunk + n ≤ geo.head.chunk → OnOk result (IfSome told (λ bytes. to ≡ run_of bytes geo slot sector n)) → OnOk result (IfSome told (λ bytes. to ≡ sectors_of bytes geo v n))
-run_told told geo v n slot sector (Err e) to is at few run = tt
-run_told told geo v n slot sector (Ok r) to is at few run =
-    if_told told (λ bytes. to ≡ run_of bytes geo slot sector n) (λ bytes. to ≡ sectors_of bytes geo v n)
-    (λ bytes p. p ∙ ap (λ (s : ℕ). run_of bytes geo s sector n) is ∙ ap (λ (t : ℕ). run_of bytes geo (home_slot geo.head v) t n) at ∙ chunk_run bytes geo v n few) run
 
 -- the sectors that were read are those of the device
 pub device_told : {T E : Type 0} (told : Option (List (List ℕ))) (geo : Geometry) (end first n bytes : ℕ) (result : Result T E) (to : List ℕ) → bytes ≡ 512 * n → first + n ≤ volume_sectors geo.head end →

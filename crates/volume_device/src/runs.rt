@@ -14,41 +14,8 @@ use member_regions::read_member;
 use outside::{Failed, Images, SECTOR};
 use raid_params::Geometry;
 
-/// Reads sectors of the member of a slot, which hold data there: where they are kept they are copied, where the member is
-/// there they are read alone, and else they are found.
-fn read_run<I: Images>(
-    images: &mut I,
-    kept: &mut Kept,
-    geo: &Geometry,
-    slot: usize,
-    sector: u64,
-    to: &mut [u8],
-) -> Result<(), Failed>
-    requires can { CanKeep geo.now sector (length to.old / 512) (I.seen images.old).attached kept.old }
-    requires slot { slot < length geo.now.slots.items }
-    requires data { AreData geo.now slot sector (length to.old / 512) }
-    requires whole { length to.old % 512 ≡ 0 }
-    requires some { 0 < length to.old }
-    ensures told { OnOk result (IfSome (told_all (I.seen images.old).attached)
-        (λ bytes. to.new ≡ run_of bytes geo.now slot sector (length to.old / 512))) }
-    ensures still { is_among kept.old.first kept.old.count sector (length to.old / 512) ≡ true →
-        (kept.new ≡ kept.old) × (I.seen images.new ≡ I.seen images.old) }
-    ensures read { HasRead geo.now
-        (if is_some (slice_index_or geo.now.slots.items slot None) then length to.old / 512 else data_blocks geo.now.head * (length to.old / 512))
-        (I.seen images.old) (I.seen images.new) kept.old kept.new }
-    ensures cause { HasCause (I.seen images.old).faults (I.seen images.new).faults result }
-{
-    let count = to.len() / SECTOR;
-    let held = geo.slots[slot];
-    if held.is_some() && !kept.has(sector, count) {
-        return read_member(images, held, geo.head.offset, sector, to);
-    }
-    kept.fill(images, geo, sector, count)?;
-    kept.copy(slot, sector, to);
-    Ok(())
-}
-
-/// Reads sectors of the volume from number `first` on, which lie in one chunk.
+/// Reads sectors of the volume from number `first` on, which lie in one chunk: where they are kept they are copied, where their
+/// member is there they are read alone, and else they are found.
 fn read_chunk<I: Images>(
     images: &mut I,
     kept: &mut Kept,
@@ -70,10 +37,17 @@ fn read_chunk<I: Images>(
         (I.seen images.old) (I.seen images.new) kept.old kept.new }
     ensures cause { HasCause (I.seen images.old).faults (I.seen images.new).faults result }
 {
-    match locate(&geo.head, end, first) {
-        Some(home) => read_run(images, kept, geo, home.slot as usize, home.sector, to),
-        None => Ok(()),
+    let Some(home) = locate(&geo.head, end, first) else {
+        return Ok(());
+    };
+    let count = to.len() / SECTOR;
+    let held = geo.slots[home.slot as usize];
+    if held.is_some() && !kept.has(home.sector, count) {
+        return read_member(images, held, geo.head.offset, home.sector, to);
     }
+    kept.fill(images, geo, home.sector, count)?;
+    kept.copy(home.slot as usize, home.sector, to);
+    Ok(())
 }
 
 /// Reads sectors of the volume from number `first` on, a run of one chunk after the other.

@@ -1,7 +1,6 @@
 -- How far the reading is ahead of what was put.
-use Rattle.std.proofs.Common.{◌≡◌, ℕ, zero, suc, ◌+◌, ◌*◌, ◌≤◌, List, [], ◌∷◌, ◌++◌, length, take, max, Option, None, Some, IfSome, Result, Ok, Err, refl, sym, ap, ◌∙◌, arith, length-append}
+use Rattle.std.proofs.Common.{◌≡◌, ℕ, ◌+◌, ◌*◌, ◌≤◌, List, [], ◌++◌, length, take, max, Option, None, Some, IfSome, Result, Ok, Err, sym, ap, ◌∙◌, arith, length-append}
 use Rattle.std.proofs.lemmas.Nat.{mul-le}
-use Rattle.std.specs.List.{flat_map, range_with_len}
 use Rattle.std.specs.Io.KnownBytes.{Appends}
 use Rattle.outside.specs.Seen.{OnlyReads, Seen}
 use Rattle.outside.specs.Streams.{AppendsFront}
@@ -17,15 +16,8 @@ use Rattle.virtual_volume.specs.Gained.{IsAhead}
 use Rattle.virtual_volume.specs.Parts.{chunk_of, items_of, rows_of}
 use Rattle.virtual_volume.specs.Waiting.{Passed, Passes}
 use Rattle.virtual_volume.proofs.Blocks.{sector_long}
-use Rattle.virtual_volume.proofs.Ranges.{flat_more}
-
--- lists of one length, one after the other
-flat_long : (f : ℕ → List ℕ) (k first n : ℕ) → ((i : ℕ) → length (f i) ≡ k) → length (flat_map f (range_with_len first n)) ≡ n * k
-flat_long f k first zero each = let none : length (flat_map f (range_with_len first 0)) ≡ 0 = refl in none ∙ omega arith
-flat_long f k first (suc n) each =
-    let more : suc n * k ≡ k + n * k = grind arith in
-    ap (λ (l : List ℕ). length l) (flat_more f first n (suc n) (first + n) (omega arith) refl) ∙ length-append (flat_map f (range_with_len first n)) (f (first + n))
-    ∙ omega (arith, more, each (first + n), flat_long f k first n each)
+use Rattle.virtual_volume.proofs.Fronts.{front_none, gained_long}
+use Rattle.virtual_volume.proofs.Ranges.{flat_long}
 
 chunk_long : (images : List (List ℕ)) (geo : Geometry) (row slot : ℕ) → length (chunk_of images geo row slot) ≡ geo.head.chunk * 512
 unfolding chunk_of
@@ -49,21 +41,8 @@ needed_long images geo n t =
 
 -- a sink that gained a front holds no less than before, and a front more
 gained_front : (most from to : ℕ) (old mid new : Option (List ℕ)) (front after : List ℕ) → Appends old mid front → AppendsFront mid new after → 512 * to ≤ 512 * (from + most) + length front → IsAhead most from to old new
-gained_front most from to None mid new front after p q few = tt
-gained_front most from to (Some xs) None new front after p q few = absurd p
-gained_front most from to (Some xs) (Some ys) None front after p q few = absurd q.2
-gained_front most from to (Some xs) (Some ys) (Some zs) front after p q few =
-    let grown : length ys ≡ length xs + length front = ap (λ (l : List ℕ). length l) p ∙ length-append xs front in
-    let more : length zs ≡ length ys + length (take q.0 after) = ap (λ (l : List ℕ). length l) q.2 ∙ length-append ys (take q.0 after) in
-    omega arith
-
-front_all : (old : Option (List ℕ)) → AppendsFront old old []
-front_all None = (0, omega arith, tt)
-front_all (Some xs) = (0, omega arith, append_none xs)
-  where
-    append_none : (l : List ℕ) → l ≡ l ++ []
-    append_none [] = refl
-    append_none (x ∷ l) = ap (λ (m : List ℕ). x ∷ m) (append_none l)
+gained_front most from to old mid new front after p q few =
+    gained_long (λ before more. 512 * to + before ≤ 512 * (from + most) + more) old mid new front after p q (λ before more long. omega arith)
 
 -- what passed is as long as the rows, but for what waits
 front_long : (old new : Option (List ℕ)) (before after bytes : List ℕ) (p : Passes old new before after bytes) → length bytes ≤ length p.front + length after
@@ -89,7 +68,7 @@ pub ahead_at_end : (told : Option (List (List ℕ))) (old new : Seen) (geo : Geo
     IfSome told (λ bytes. IsAhead (data_blocks geo.head * (batch * geo.head.chunk) + BLOCK) old.sectors_read new.sectors_read a b)
 ahead_at_end None old new geo first batch a b before between t waits reads p = tt
 ahead_at_end (Some bytes) old new geo first batch a b before between t waits reads p =
-    gained_front (data_blocks geo.head * (batch * geo.head.chunk) + BLOCK) old.sectors_read new.sectors_read a b b p.front [] p.gained (front_all b)
+    gained_front (data_blocks geo.head * (batch * geo.head.chunk) + BLOCK) old.sectors_read new.sectors_read a b b p.front [] p.gained (front_none b [])
     (omega (arith, needed_long bytes geo first t, front_long a b before between (rows_of bytes geo 0 first) p, reads.sectors_read, waits))
 
 -- it is not further ahead where the sink gains more

@@ -1,7 +1,9 @@
 -- Bytes in blocks of 512.
-use Rattle.std.proofs.Common.{◌≡◌, ℕ, zero, suc, ◌+◌, ◌*◌, ◌/◌, ◌<◌, ◌≤◌, List, ◌++◌, length, get_or, take, drop, refl, sym, ap, ◌∙◌, arith, length-drop, slice_index_or, None, Some, Option, Result, Ok, Err, OnOk, IfSome, false, true}
+use Rattle.std.proofs.Common.{◌≡◌, ℕ, zero, suc, ◌+◌, ◌*◌, ◌/◌, ◌<◌, ◌≤◌, List, [], ◌∷◌, ◌++◌, length, get_or, take, drop, refl, sym, ap, ◌∙◌, arith, length-drop, slice_index_or, None, Some, Option, Result, Ok, Err, OnOk, IfSome, false, true}
 use Rattle.std.specs.List.{flat_map, range_with_len}
-use Rattle.std.proofs.lemmas.List.{get_or-take, get_or-drop, length-take, take-append-drop, drop-take}
+use Rattle.std.proofs.lemmas.List.{get_or-take, get_or-drop, length-take, take-append-drop}
+use Rattle.std.proofs.lemmas.Slice.{take-put_mid}
+use borrow.Rule.Slice.PartMut.{put_mid}
 use Rattle.std.proofs.lemmas.List.FromFn.{get_or-map-range_with_len, length-map-range_with_len}
 use Rattle.std.proofs.lemmas.Grind.{same_number_lists}
 use Rattle.std.proofs.lemmas.Nat.{div-mul-add}
@@ -14,37 +16,34 @@ use Rattle.member_regions.proofs.Solved.{held_byte}
 use Rattle.virtual_volume.specs.Parts.{chunk_of}
 use Rattle.lost_members.specs.Needs.{HoldData, is_data_at}
 use Rattle.member_regions.specs.Regions.{HoldSlot}
-use Rattle.virtual_volume.proofs.Ranges.{flat_more, flat_same}
-
--- one more block of a list
-block_more : (xs : List ℕ) (n : ℕ) → take (512 * suc n) xs ≡ take (512 * n) xs ++ take 512 (drop (512 * n) xs)
-block_more xs n =
-    let k : 512 * suc n ≡ 512 * n + 512 = omega arith in
-    let short : take (512 * n) (take (512 * n + 512) xs) ≡ take (512 * n) xs = take_take (512 * n) 512 xs in
-    ap (λ (t : ℕ). take t xs) k ∙ sym (take-append-drop (512 * n) (take (512 * n + 512) xs)) ∙ ap (λ (l : List ℕ). l ++ drop (512 * n) (take (512 * n + 512) xs)) short
-    ∙ ap (λ (l : List ℕ). take (512 * n) xs ++ l) (drop-take (512 * n) 512 xs)
-  where
-    take_take : (a b : ℕ) (l : List ℕ) → take a (take (a + b) l) ≡ take a l
-    take_take a b l =
-        same_number_lists (take a (take (a + b) l)) (take a l) (omega (arith, length-take a (take (a + b) l), length-take (a + b) l, length-take a l))
-        (λ k h. let short : k < a = omega (arith, length-take a (take (a + b) l)) in
-        get_or-take a (take (a + b) l) k 0 short ∙ get_or-take (a + b) l k 0 (omega arith) ∙ sym (get_or-take a l k 0 short))
+use Rattle.virtual_volume.proofs.Ranges.{flat_more, flat_shift, flat_split}
 
 -- a list is the blocks that it agrees with
-blocks_are : (xs : List ℕ) (f : ℕ → List ℕ) (n m : ℕ) → n ≤ m → length xs ≡ 512 * m → ((j : ℕ) → length (f j) ≡ 512) →
-    ((j x : ℕ) → j < m → x < 512 → get_or xs (512 * j + x) 0 ≡ get_or (f j) x 0) → take (512 * n) xs ≡ flat_map f (range_with_len 0 n)
-blocks_are xs f zero m le long each same = refl
-blocks_are xs f (suc n) m le long each same =
-    let inner : length (take 512 (drop (512 * n) xs)) ≡ 512 = omega (arith, length-take 512 (drop (512 * n) xs), length-drop (512 * n) xs) in
-    let last : take 512 (drop (512 * n) xs) ≡ f n =
-    same_number_lists (take 512 (drop (512 * n) xs)) (f n) (inner ∙ sym (each n))
-    (λ k h. let short : k < 512 = omega arith in
-    get_or-take 512 (drop (512 * n) xs) k 0 short ∙ get_or-drop (512 * n) xs k 0 ∙ same n k (omega arith) short) in
-    block_more xs n ∙ ap (λ (l : List ℕ). l ++ take 512 (drop (512 * n) xs)) (blocks_are xs f n m (omega arith) long each same)
-    ∙ ap (λ (l : List ℕ). flat_map f (range_with_len 0 n) ++ l) last ∙ sym (flat_more f 0 n (suc n) n (omega arith) (omega arith))
+pub blocks_are : (xs : List ℕ) (f : ℕ → List ℕ) (first n : ℕ) → length xs ≡ 512 * n → ((v : ℕ) → length (f v) ≡ 512) →
+    ((j x : ℕ) → j < n → x < 512 → get_or xs (512 * j + x) 0 ≡ get_or (f (first + j)) x 0) → xs ≡ flat_map f (range_with_len first n)
+blocks_are [] f first zero long each same = refl
+blocks_are (x ∷ xs) f first zero long each same = absurd (omega arith)
+blocks_are xs f first (suc n) long each same =
+    let before : take (512 * n) xs ≡ flat_map f (range_with_len first n) =
+    blocks_are (take (512 * n) xs) f first n (omega (arith, length-take (512 * n) xs)) each
+    (λ j x below inside. get_or-take (512 * n) xs (512 * j + x) 0 (omega arith) ∙ same j x (omega arith) inside) in
+    let last : drop (512 * n) xs ≡ f (first + n) =
+    same_number_lists (drop (512 * n) xs) (f (first + n)) (omega (arith, length-drop (512 * n) xs, each (first + n)))
+    (λ k h. let short : k < 512 = omega (arith, length-drop (512 * n) xs) in get_or-drop (512 * n) xs k 0 ∙ same n k (omega arith) short) in
+    sym (take-append-drop (512 * n) xs) ∙ ap (λ (l : List ℕ). l ++ drop (512 * n) xs) before
+    ∙ ap (λ (l : List ℕ). flat_map f (range_with_len first n) ++ l) last ∙ sym (flat_more f first n (suc n) (first + n) (omega arith) refl)
+
+-- more blocks were written
+pub flat_on : (f : ℕ → List ℕ) (first at n next k : ℕ) (to run : List ℕ) → next ≡ at + n → length run ≡ 512 * n → 512 * at ≤ length to →
+    take (512 * at) to ≡ flat_map f (range_with_len first at) → run ≡ flat_map f (range_with_len (first + at) n) →
+    take (512 * next) (put_mid (512 * at) k to run) ≡ flat_map f (range_with_len first next)
+flat_on f first at n next k to run e long within before here =
+    take-put_mid (512 * at) k to run (512 * next) (omega (arith, long, e)) within
+    ∙ ap (λ (l : List ℕ). l ++ run) before ∙ ap (λ (l : List ℕ). flat_map f (range_with_len first at) ++ l) here
+    ∙ sym (flat_split f first at n next (first + at) e refl)
 
 -- the bytes of a member sector
-sector_byte : (images : List (List ℕ)) (geo : Geometry) (slot t x : ℕ) → x < 512 → get_or (member_sector images geo slot t) x 0 ≡ byte_in images geo t slot x (slice_index_or geo.slots.items slot None)
+pub sector_byte : (images : List (List ℕ)) (geo : Geometry) (slot t x : ℕ) → x < 512 → get_or (member_sector images geo slot t) x 0 ≡ byte_in images geo t slot x (slice_index_or geo.slots.items slot None)
 unfolding member_sector
 sector_byte images geo slot t x h = get_or-map-range_with_len (λ x. byte_in images geo t slot x (slice_index_or geo.slots.items slot None)) 0 512 x x 0 h (omega arith)
 
@@ -56,21 +55,16 @@ sector_long images geo slot t = length-map-range_with_len (λ x. byte_in images 
 part_sectors : (images : List (List ℕ)) (geo : Geometry) (stride first slot at n : ℕ) (sectors part : List ℕ) →
     ((j x : ℕ) → j < n → x < 512 → get_or sectors (stride * slot + (512 * (at + j) + x)) 0 ≡ byte_in images geo (first + (at + j)) slot x (slice_index_or geo.slots.items slot None)) →
     length part ≡ 512 * n → part ≡ take (512 * n) (drop (stride * slot + 512 * at) sectors) →
-    part ≡ flat_map (λ j. member_sector images geo slot (first + (at + j))) (range_with_len 0 n)
+    part ≡ flat_map (member_sector images geo slot) (range_with_len (first + at) n)
 part_sectors images geo stride first slot at n sectors part hold within is =
-    let xs : List ℕ = take (512 * n) (drop (stride * slot + 512 * at) sectors) in
-    let long : length (take (512 * n) (drop (stride * slot + 512 * at) sectors)) ≡ 512 * n
-    = sym (ap (λ (l : List ℕ). length l) is) ∙ within in
-    let whole : take (512 * n) (take (512 * n) (drop (stride * slot + 512 * at) sectors)) ≡ take (512 * n) (drop (stride * slot + 512 * at) sectors)
-    = same_number_lists (take (512 * n) (take (512 * n) (drop (stride * slot + 512 * at) sectors))) (take (512 * n) (drop (stride * slot + 512 * at) sectors))
-    (omega (arith, length-take (512 * n) (take (512 * n) (drop (stride * slot + 512 * at) sectors))))
-    (λ k h. get_or-take (512 * n) (take (512 * n) (drop (stride * slot + 512 * at) sectors)) k 0 (omega (arith, length-take (512 * n) (take (512 * n) (drop (stride * slot + 512 * at) sectors))))) in
-    is ∙ sym whole
-    ∙ blocks_are (take (512 * n) (drop (stride * slot + 512 * at) sectors)) (λ j. member_sector images geo slot (first + (at + j))) n n (omega arith) long
-    (λ j. sector_long images geo slot (first + (at + j)))
-    (λ j x below inside. get_or-take (512 * n) (drop (stride * slot + 512 * at) sectors) (512 * j + x) 0 (omega arith) ∙ get_or-drop (stride * slot + 512 * at) sectors (512 * j + x) 0
+    blocks_are part (member_sector images geo slot) (first + at) n within (λ t. sector_long images geo slot t)
+    (λ j x below inside.
+    let later : first + (at + j) ≡ first + at + j = omega arith in
+    ap (λ (l : List ℕ). get_or l (512 * j + x) 0) is
+    ∙ get_or-take (512 * n) (drop (stride * slot + 512 * at) sectors) (512 * j + x) 0 (omega arith) ∙ get_or-drop (stride * slot + 512 * at) sectors (512 * j + x) 0
     ∙ ap (λ (p : ℕ). get_or sectors p 0) (placed (stride * slot) at j x)
-    ∙ hold j x below inside ∙ sym (sector_byte images geo slot (first + (at + j)) x inside))
+    ∙ hold j x below inside ∙ sym (sector_byte images geo slot (first + (at + j)) x inside)
+    ∙ ap (λ (t : ℕ). get_or (member_sector images geo slot t) x 0) later)
   where
     placed : (p at j x : ℕ) → p + 512 * at + (512 * j + x) ≡ p + (512 * (at + j) + x)
     placed p at j x = omega arith
@@ -78,7 +72,7 @@ part_sectors images geo stride first slot at n sectors part hold within is =
 -- sectors of a region that holds the member's
 pub region_sectors : (images : List (List ℕ)) (geo : Geometry) (stride first count slot at n : ℕ) (sectors part : List ℕ) → HoldSlot images geo stride first count slot sectors →
     at + n ≤ count → length part ≡ 512 * n → part ≡ take (512 * n) (drop (stride * slot + 512 * at) sectors) →
-    part ≡ flat_map (λ j. member_sector images geo slot (first + (at + j))) (range_with_len 0 n)
+    part ≡ flat_map (member_sector images geo slot) (range_with_len (first + at) n)
 region_sectors images geo stride first count slot at n sectors part hold few within is =
     part_sectors images geo stride first slot at n sectors part (λ j x below inside. hold (at + j) x (omega arith) inside) within is
 
@@ -96,8 +90,7 @@ unfolding chunk_of
 region_chunk images geo stride first count slot row at sectors part there holds hold place few within is =
     part_sectors images geo stride first slot at geo.head.chunk sectors part
     (λ j x below inside. hold slot (at + j) x there (omega arith) inside (chunk_data geo row slot (first + (at + j)) j holds below (omega arith))) within is
-    ∙ flat_same (λ j. member_sector images geo slot (first + (at + j))) (λ j. member_sector images geo slot (row * geo.head.chunk + j)) 0 geo.head.chunk
-    (λ j low high. let e : first + (at + j) ≡ row * geo.head.chunk + j = omega arith in ap (λ (t : ℕ). member_sector images geo slot t) e)
+    ∙ flat_shift (member_sector images geo slot) (row * geo.head.chunk) 0 geo.head.chunk (first + at) (omega arith)
 
 -- a sector that was read
 pub sector_read : (images : List (List ℕ)) (geo : Geometry) (slot t : ℕ) (to : List ℕ) → length to ≡ 512 → is_none (slice_index_or geo.slots.items slot None) ≡ false →

@@ -1,12 +1,14 @@
 -- What a sink gains, part by part.
-use Rattle.std.proofs.Common.{◌≡◌, ℕ, ◌+◌, ◌*◌, ◌/◌, ◌%◌, List, [], ◌++◌, length, take, Option, None, Some, Result, Ok, Err, refl, sym, ap, ◌∙◌, subst, arith, append_assoc, length-append}
+use Rattle.std.proofs.Common.{◌≡◌, ℕ, ◌+◌, ◌-◌, ◌*◌, ◌/◌, ◌%◌, ◌≤◌, List, [], ◌++◌, length, take, Option, None, Some, Result, Ok, Err, refl, sym, ap, ◌∙◌, subst, arith, append_assoc, length-append}
 use Rattle.std.specs.Io.KnownBytes.{Appends}
 use Rattle.std.specs.Result.{IsErr, IsErrAnd}
-use Rattle.std.specs.Prelude.{MatchResult, IfSome, IfErr, OnOk}
+use Rattle.std.specs.Prelude.{MatchResult, IfSome, IsSomeAnd, IfErr, OnOk}
+use Rattle.std.specs.List.{flat_map, range_with_len}
 use Rattle.std.proofs.lemmas.List.{append-nil, take-append-le}
 use Rattle.std.proofs.Math.Seq.{take-append-add, take-append_seam}
 use Rattle.outside.specs.Streams.{AppendsFront, AppendsSectors, Puts}
 use Rattle.virtual_volume.specs.Waiting.{Passed, Passes}
+use Rattle.virtual_volume.proofs.Ranges.{flat_long, flat_split}
 
 pub appends_none : (old : Option (List ℕ)) → Appends old old []
 appends_none None = tt
@@ -130,3 +132,44 @@ pub none_front : {A T E : Type 0} (told : Option A) (f : A → List ℕ) (old : 
 none_front told f old (Ok v) = tt
 none_front None f old (Err e) = tt
 none_front (Some a) f old (Err e) = front_none old (f a)
+
+-- what is known of a put, where its error was turned into another
+pub puts_as : {T E F : Type 0} (Q : E → F → Type 0) (old new : Option (List ℕ)) (bytes : List ℕ) (r : Result T E) (m : Result T F) →
+    MatchResult r (λ x. m ≡ Ok x) (λ e. IsErrAnd m (Q e)) → Puts old new r bytes → Puts old new m bytes
+puts_as Q old new bytes (Ok x) m is p = rw is p
+puts_as Q old new bytes (Err x) (Ok v) is p = absurd is
+puts_as Q old new bytes (Err x) (Err e) is p = p
+
+-- a sink that gained a front, and some of more, is longer by the front at least
+pub gained_long : (Q : ℕ → ℕ → Type 0) (a b c : Option (List ℕ)) (front more : List ℕ) → Appends a b front → AppendsFront b c more →
+    ((before after : ℕ) → before + length front ≤ after → Q before after) → IfSome a (λ old. IsSomeAnd c (λ new. Q (length old) (length new)))
+gained_long Q None b c front more p q each = tt
+gained_long Q (Some xs) None c front more p q each = absurd p
+gained_long Q (Some xs) (Some ys) None front more p q each = absurd q.2
+gained_long Q (Some xs) (Some ys) (Some zs) front more p q each =
+    let grown : length ys ≡ length xs + length front = ap (λ (l : List ℕ). length l) p ∙ length-append xs front in
+    let later : length zs ≡ length ys + length (take q.0 more) = ap (λ (l : List ℕ). length l) q.2 ∙ length-append ys (take q.0 more) in
+    each (length xs) (length zs) (omega arith)
+
+-- sectors that are put part by part: more of them
+pub sectors_on : (f : ℕ → List ℕ) (first count : ℕ) (a b c : Option (List ℕ)) →
+    Appends a b (flat_map f (range_with_len 0 first)) → Appends b c (flat_map f (range_with_len first count)) → Appends a c (flat_map f (range_with_len 0 (first + count)))
+sectors_on f first count a b c p q =
+    subst (λ (l : List ℕ). Appends a c l) (sym (flat_split f 0 first count (first + count) first refl (omega arith)))
+    (appends_join a b c (flat_map f (range_with_len 0 first)) (flat_map f (range_with_len first count)) p q)
+
+-- putting more of them failed
+pub sectors_cut : (f : ℕ → List ℕ) (first count n : ℕ) (a b c : Option (List ℕ)) → first + count ≤ n →
+    Appends a b (flat_map f (range_with_len 0 first)) → AppendsFront b c (flat_map f (range_with_len first count)) → AppendsFront a c (flat_map f (range_with_len 0 n))
+sectors_cut f first count n a b c few p q =
+    front_after a b c (flat_map f (range_with_len 0 first)) (flat_map f (range_with_len first (n - first))) (flat_map f (range_with_len 0 n))
+    (flat_split f 0 first (n - first) n first (omega arith) (omega arith)) p
+    (front_more b c (flat_map f (range_with_len first count)) (flat_map f (range_with_len (first + count) (n - (first + count)))) (flat_map f (range_with_len first (n - first)))
+    (flat_split f first count (n - (first + count)) (n - first) (first + count) (omega arith) refl) q)
+
+-- those that were put are the first of more
+pub sectors_first : (f : ℕ → List ℕ) (first n : ℕ) (a b : Option (List ℕ)) → ((v : ℕ) → length (f v) ≡ 512) → first ≤ n →
+    Appends a b (flat_map f (range_with_len 0 first)) → AppendsSectors a b (flat_map f (range_with_len 0 n))
+sectors_first f first n a b each few p =
+    sectors_are a b (flat_map f (range_with_len 0 n)) (flat_map f (range_with_len 0 first)) (flat_map f (range_with_len first (n - first))) first (omega (arith, flat_long f 512 0 first each))
+    (flat_split f 0 first (n - first) n first (omega arith) (omega arith)) p

@@ -1,5 +1,6 @@
 pub mod Places
 pub mod Ranges
+pub mod InChunk
 pub mod Fronts
 pub mod Blocks
 pub mod Sets

@@ -1,5 +1,5 @@
 -- Lists that are made over ranges of numbers.
-use Rattle.std.proofs.Common.{◌≡◌, ℕ, zero, suc, ◌+◌, ◌*◌, ◌<◌, ◌≤◌, List, ◌∷◌, ◌++◌, refl, sym, ap, ◌∙◌, arith}
+use Rattle.std.proofs.Common.{◌≡◌, ℕ, zero, suc, ◌+◌, ◌*◌, ◌<◌, ◌≤◌, List, ◌∷◌, ◌++◌, length, refl, sym, ap, ◌∙◌, arith, length-append}
 use Rattle.std.specs.List.{flat_map, range_with_len}
 use Rattle.std.proofs.lemmas.List.{append-nil}
 use Rattle.std.proofs.lemmas.Grind.{flat_map-append}
@@ -24,6 +24,14 @@ pub flat_more : {A : Type 0} (f : ℕ → List A) (a n k b : ℕ) → k ≡ n + 
     flat_map f (range_with_len a k) ≡ flat_map f (range_with_len a n) ++ f b
 flat_more {A} f a n k b e g =
     flat_split f a n 1 k b e g ∙ ap (λ (l : List A). flat_map f (range_with_len a n) ++ l) (append-nil (f b))
+
+-- lists of one length, one after the other
+pub flat_long : (f : ℕ → List ℕ) (k first n : ℕ) → ((i : ℕ) → length (f i) ≡ k) → length (flat_map f (range_with_len first n)) ≡ n * k
+flat_long f k first zero each = let none : length (flat_map f (range_with_len first 0)) ≡ 0 = refl in none ∙ omega arith
+flat_long f k first (suc n) each =
+    let more : suc n * k ≡ k + n * k = grind arith in
+    ap (λ (l : List ℕ). length l) (flat_more f first n (suc n) (first + n) (omega arith) refl) ∙ length-append (flat_map f (range_with_len first n)) (f (first + n))
+    ∙ omega (arith, more, each (first + n), flat_long f k first n each)
 
 -- numbers from later on
 pub flat_shift : {A : Type 0} (f : ℕ → List A) (c a n b : ℕ) → b ≡ c + a → flat_map f (range_with_len b n) ≡ flat_map (λ u. f (c + u)) (range_with_len a n)

@@ -1,5 +1,5 @@
 -- What is known of sets whose volume is written.
-use Rattle.std.proofs.Common.{◌≡◌, ℕ, ◌+◌, ◌*◌, ◌/◌, ◌<◌, ◌≤◌, List, length, All, Option, None, Some, Bool, true, false, refl, ap, arith, ◌-◌}
+use Rattle.std.proofs.Common.{◌≡◌, ℕ, ◌+◌, ◌*◌, ◌<◌, ◌≤◌, List, length, All, Option, true, ap, arith, ◌-◌}
 use Rattle.std.specs.Prelude.{IsTrue}
 use Rattle.std.proofs.lemmas.Nat.{mul-le}
 use Rattle.outside.proofs.Reading.{reads_join, reads_up}
@@ -31,9 +31,6 @@ served_head geo end attached s = shaped_head geo (length attached) (served_shape
 
 pub served_slots : (geo : Geometry) (end : ℕ) (attached : List Image) → IsServed geo end attached → length geo.slots.items ≡ geo.head.members
 served_slots geo end attached s = shaped_slots geo (length attached) (served_shape geo end attached s)
-
-nothing_over : (n : ℕ) → 0 / n ≡ 0
-nothing_over n = grind arith
 
 -- it has a whole row, and its rows end before the end
 pub served_rows : (geo : Geometry) (end : ℕ) (attached : List Image) → IsServed geo end attached → 1 ≤ rows geo.head end

@@ -19,7 +19,9 @@ use Rattle.near_mirror.proofs.Turns.{whole_below, whole_turns}
 use Rattle.virtual_volume.proofs.Ranges.{flat_shift}
 use Rattle.near_volume.specs.Columns.{AreRows, HoldsChunk, stripe}
 use Rattle.near_volume.specs.Sectors.{copy_bytes, near_sector, sectors_of}
-use Rattle.near_volume.proofs.Runs.{blocks_are, copy_byte, copy_long, later_byte}
+use Rattle.member_regions.proofs.Alike.{later_byte}
+use Rattle.virtual_volume.proofs.Blocks.{blocks_are}
+use Rattle.near_volume.proofs.Runs.{copy_byte, copy_long}
 
 pub some_stripe : (head : NearHead) → IsTrue (is_valid_near head) → 1 ≤ stripe head
 some_stripe head h =
@@ -189,12 +191,12 @@ column_home images set end copy first column row to some members far begins held
 pub chunks_are : (f : ℕ → List ℕ) (chunk many n : ℕ) (to : List ℕ) → 1 ≤ chunk → n ≡ many * chunk → length to ≡ 512 * n → ((j : ℕ) → length (f j) ≡ 512) →
     ((q : ℕ) → q < many → HoldsChunk f chunk to q) → to ≡ flat_map f (range_with_len 0 n)
 chunks_are f chunk many n to some all long each holds =
-    blocks_are to f n long each
+    blocks_are to f 0 n long each
     (λ j x below small.
     let split : j / chunk * chunk + j % chunk ≡ j = div-add-mod' j chunk in
     sym (ap (λ (k : ℕ). get_or to (512 * k + x) 0) split)
     ∙ holds (j / chunk) (div_below j chunk many some (omega arith)) (j % chunk) x (mod_below j chunk some) small
-    ∙ ap (λ (k : ℕ). get_or (f k) x 0) split)
+    ∙ ap (λ (k : ℕ). get_or (f k) x 0) (omega (arith, split)))
 
 -- rows of which each column does
 pub rows_are : (images : List (List ℕ)) (set : NearSet) (end first rows : ℕ) (to : List ℕ) → 1 ≤ set.head.chunk → 0 < set.head.members → length to ≡ 512 * (rows * stripe set.head) →

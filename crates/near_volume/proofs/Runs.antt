@@ -1,33 +1,21 @@
 -- Sectors that lie in one chunk.
-use Rattle.std.proofs.Common.{◌≡◌, ℕ, zero, suc, ◌+◌, ◌-◌, ◌*◌, ◌/◌, ◌%◌, ◌<◌, ◌≤◌, List, [], ◌++◌, length, get_or, take, drop, Option, None, Some, IfSome, OnOk, Result, Ok, Err, inl, inr, true, false, ◌∷◌, refl, sym, ap, ◌∙◌, arith, length-drop}
-use Rattle.std.specs.List.{flat_map, range_with_len}
+use Rattle.std.proofs.Common.{◌≡◌, ℕ, ◌+◌, ◌-◌, ◌*◌, ◌/◌, ◌%◌, ◌<◌, ◌≤◌, List, length, get_or, Option, None, Some, IfSome, OnOk, Result, Ok, Err, inl, inr, true, false, refl, sym, ap, ◌∙◌, arith}
 use Rattle.std.specs.Option.{is_none, is_some, unwrap_or}
-use Rattle.std.proofs.lemmas.List.{get_or-take, get_or-drop, length-take, take-append-drop}
 use Rattle.std.proofs.lemmas.List.FromFn.{get_or-map-range_with_len, length-map-range_with_len}
-use Rattle.std.proofs.lemmas.Grind.{same_number_lists}
-use Rattle.std.proofs.lemmas.Nat.{div-add-mod', div-mul-add, mod-mul-add, mul-le}
+use Rattle.std.proofs.lemmas.Nat.{div-add-mod', mul-le}
 use Rattle.std.proofs.lemmas.Bool.{cases_lt}
 use Rattle.raid_terms.specs.Parity.{member_byte}
 use Rattle.near_mirror.specs.Copies.{copy_row, copy_sector, near_area, near_rows, row_of, slot_of}
 use Rattle.near_mirror.specs.Volume.{copy_image, held_copy, home_copy}
 use Rattle.near_mirror.specs.declared.types.NearHead.{NearHead}
 use Rattle.near_mirror.specs.declared.types.NearSet.{NearSet}
-use Rattle.virtual_volume.proofs.Ranges.{flat_more, flat_same, flat_shift}
+use Rattle.member_regions.proofs.Alike.{later_byte}
+use Rattle.virtual_volume.proofs.Blocks.{blocks_are}
+use Rattle.virtual_volume.proofs.InChunk.{later_place, same_chunk}
+use Rattle.virtual_volume.proofs.Ranges.{flat_same}
 use Rattle.near_volume.specs.Sectors.{copies_of, copy_bytes, near_sector, sectors_of}
 
--- a sector further on in the chunk lies in it, and as much further on in its copies
-same_chunk : (chunk v j : ℕ) → v % chunk + j < chunk → (v + j) / chunk ≡ v / chunk
-same_chunk chunk v j h =
-    let split : v / chunk * chunk + v % chunk ≡ v = div-add-mod' v chunk in
-    let place : v + j ≡ v / chunk * chunk + (v % chunk + j) = omega arith in
-    ap (λ (t : ℕ). t / chunk) place ∙ div-mul-add (v / chunk) chunk (v % chunk + j) h
-
-later_place : (chunk v j : ℕ) → v % chunk + j < chunk → (v + j) % chunk ≡ v % chunk + j
-later_place chunk v j h =
-    let split : v / chunk * chunk + v % chunk ≡ v = div-add-mod' v chunk in
-    let place : v + j ≡ v / chunk * chunk + (v % chunk + j) = omega arith in
-    ap (λ (t : ℕ). t % chunk) place ∙ mod-mul-add (v / chunk) chunk (v % chunk + j) h
-
+-- a sector further on in the chunk lies as much further on in its copies
 same_image : (set : NearSet) (v j copy : ℕ) → v % set.head.chunk + j < set.head.chunk → copy_image set copy (v + j) ≡ copy_image set copy v
 same_image set v j copy h = ap (λ (k : ℕ). get_or set.slots.items (slot_of set.head.layout.copying set.head.members set.head.layout.copies copy k) None) (same_chunk set.head.chunk v j h)
 
@@ -41,13 +29,7 @@ later_sector head end v j copy h =
     let place = later_place head.chunk v j h in
     omega arith
 
--- a byte of a later sector
-pub later_byte : (images : List (List ℕ)) (offset t j x : ℕ) (held : Option ℕ) → member_byte images offset t (512 * j + x) held ≡ member_byte images offset (t + j) x held
-later_byte images offset t j x None = refl
-later_byte images offset t j x (Some i) =
-    let place : 512 * (offset + t) + (512 * j + x) ≡ 512 * (offset + (t + j)) + x = omega arith in
-    ap (λ (k : ℕ). get_or (get_or images i []) k 0) place
-
+-- the bytes of a copy
 pub copy_byte : (images : List (List ℕ)) (set : NearSet) (end v copy x : ℕ) → x < 512 →
     get_or (copy_bytes images set end v copy) x 0 ≡ member_byte images set.head.offset (copy_sector set.head end copy v) x (copy_image set copy v)
 unfolding copy_bytes
@@ -56,21 +38,6 @@ copy_byte images set end v copy x h = get_or-map-range_with_len (λ x. member_by
 pub copy_long : (images : List (List ℕ)) (set : NearSet) (end v copy : ℕ) → length (copy_bytes images set end v copy) ≡ 512
 unfolding copy_bytes
 copy_long images set end v copy = length-map-range_with_len (λ x. member_byte images set.head.offset (copy_sector set.head end copy v) x (copy_image set copy v)) 0 512
-
--- a list is the sectors that it agrees with
-pub blocks_are : (xs : List ℕ) (f : ℕ → List ℕ) (n : ℕ) → length xs ≡ 512 * n → ((j : ℕ) → length (f j) ≡ 512) →
-    ((j x : ℕ) → j < n → x < 512 → get_or xs (512 * j + x) 0 ≡ get_or (f j) x 0) → xs ≡ flat_map f (range_with_len 0 n)
-blocks_are [] f zero long each same = refl
-blocks_are (x ∷ xs) f zero long each same = absurd (omega arith)
-blocks_are xs f (suc n) long each same =
-    let before : take (512 * n) xs ≡ flat_map f (range_with_len 0 n) =
-    blocks_are (take (512 * n) xs) f n (omega (arith, length-take (512 * n) xs)) each
-    (λ j x below inside. get_or-take (512 * n) xs (512 * j + x) 0 (omega arith) ∙ same j x (omega arith) inside) in
-    let last : drop (512 * n) xs ≡ f n =
-    same_number_lists (drop (512 * n) xs) (f n) (omega (arith, length-drop (512 * n) xs, each n))
-    (λ k h. let short : k < 512 = omega (arith, length-drop (512 * n) xs) in get_or-drop (512 * n) xs k 0 ∙ same n k (omega arith) short) in
-    sym (take-append-drop (512 * n) xs) ∙ ap (λ (l : List ℕ). l ++ drop (512 * n) xs) before
-    ∙ ap (λ (l : List ℕ). flat_map f (range_with_len 0 n) ++ l) last ∙ sym (flat_more f 0 n (suc n) n (omega arith) (omega arith))
 
 -- a byte of a copy of a sector further on in the chunk
 run_byte : (images : List (List ℕ)) (set : NearSet) (end v j x copy : ℕ) → v % set.head.chunk + j < set.head.chunk → x < 512 →
@@ -87,9 +54,8 @@ run_is : (images : List (List ℕ)) (set : NearSet) (end v n copy : ℕ) (to : L
     to ≡ copies_of images set end copy v n
 unfolding copies_of
 run_is images set end v n copy to long inside bytes =
-    blocks_are to (λ j. copy_bytes images set end (v + j) copy) n long (λ j. copy_long images set end (v + j) copy)
+    blocks_are to (λ w. copy_bytes images set end w copy) v n long (λ w. copy_long images set end w copy)
     (λ j x below small. bytes (512 * j + x) (omega arith) ∙ sym (run_byte images set end v j x copy (omega arith) small))
-    ∙ sym (flat_shift (λ w. copy_bytes images set end w copy) v 0 n v (omega arith))
 
 some_held : (held : Option ℕ) → is_some held ≡ true → is_none held ≡ false
 some_held None e = absurd (cc)

@@ -56,35 +56,8 @@ pub fn read_copy<I: Images>(
     read_stretch(images, set, end, copy, first, to)
 }
 
-/// Reads sectors of the volume from number `first` on, which lie in one chunk, from the first copy that is there.
-#[tactic(auto, using(crate::proofs::Mirrors::mirror_chunk))]
-fn read_run<I: Images>(
-    images: &mut I,
-    set: &NearSet,
-    end: u64,
-    first: u64,
-    to: &mut [u8],
-) -> Result<(), Failed>
-    requires set { IsMirror set.now end }
-    requires near { end < 2 ^ 55 }
-    requires held { All (Reaches (I.seen images.old).attached end) set.now.slots.items }
-    requires whole { length to.old % 512 ≡ 0 }
-    requires some { 0 < length to.old }
-    requires chunk { first % set.now.head.chunk + length to.old / 512 ≤ set.now.head.chunk }
-    requires inside { first < near_sectors set.now.head end }
-    ensures told { OnOk result (IfSome (told_all (I.seen images.old).attached)
-        (λ bytes. to.new ≡ sectors_of bytes set.now end first (length to.old / 512))) }
-    ensures long { length to.new ≡ length to.old }
-    ensures reads { OnlyReads (I.seen images.old) (I.seen images.new) (length to.old / 512) }
-    ensures cause { HasCause (I.seen images.old).faults (I.seen images.new).faults result }
-{
-    match set.held_copy(first / set.head.chunk) {
-        Some(copy) => read_copy(images, set, end, copy, first, to),
-        None => Ok(()),
-    }
-}
-
 /// Reads sectors of the volume from number `first` on that are read by one step, each from the first copy that is there.
+#[tactic(auto, using(crate::proofs::Mirrors::mirror_chunk))]
 fn read_step<I: Images>(
     images: &mut I,
     set: &NearSet,
@@ -106,10 +79,12 @@ fn read_step<I: Images>(
     ensures cause { HasCause (I.seen images.old).faults (I.seen images.new).faults result }
 {
     let count = (to.len() / SECTOR) as u64;
-    if first % set.head.chunk + count <= set.head.chunk {
-        read_run(images, set, end, first, to)
-    } else {
-        read_rows(images, set, end, first, count / stripe(&set.head), to)
+    if first % set.head.chunk + count > set.head.chunk {
+        return read_rows(images, set, end, first, count / stripe(&set.head), to);
+    }
+    match set.held_copy(first / set.head.chunk) {
+        Some(copy) => read_copy(images, set, end, copy, first, to),
+        None => Ok(()),
     }
 }
 

@@ -1,12 +1,12 @@
-use Rattle.std.proofs.Common.{ℕ, ◌≡◌, ◌+◌, ◌*◌, ◌≤◌, length, take, refl, sym, ◌∙◌, arith, rules}
+use Rattle.std.proofs.Common.{ℕ, ◌≡◌, ◌+◌, ◌*◌, ◌≤◌, length, take, refl, ◌∙◌, arith, rules}
 use Rattle.outside.specs.Attached.{told_all}
 use Rattle.outside.proofs.Reading.{reads_join, reads_none, reads_up}
 use Rattle.member_regions.proofs.IfTold.{if_any, if_both}
 use Rattle.near_mirror.proofs.Heads.{volume_fits}
 use borrow.Rule.Slice.PartMut.{put_mid}
-use Rattle.near_volume.specs.Sectors.{sectors_of}
+use Rattle.near_volume.specs.Sectors.{near_sector, sectors_of}
 use Rattle.near_volume.proofs.Mirrors.{mirrored_head, mirrored_held}
-use Rattle.near_volume.proofs.Parts.{run_on, sectors_none}
+use Rattle.virtual_volume.proofs.Blocks.{flat_on}
 use Rattle.near_volume.proofs.writing.read_near.Goals as goal
 
 pub overflow_add-first : goal.overflow_add-first
@@ -19,18 +19,20 @@ pub read_step-requires-clause-held : goal.read_step-requires-clause-held
 read_step-requires-clause-held g c = rw c.loop-done.invariant.reads.attached (mirrored_held c.args.set.now c.args.end (g.I.Images.seen c.args.images.now).attached c.requires.set)
 
 pub loop-done-init : goal.loop-done-init
+unfolding sectors_of
 loop-done-init g c = record {
   within = omega arith;
   long = refl;
   told =
       if_any (told_all (g.I.Images.seen c.args.images.now).attached)
       (λ bytes. take (512 * 0) c.args.to.now ≡ sectors_of bytes c.args.set.now c.args.end c.args.first 0)
-      (λ bytes. sym (sectors_none bytes c.args.set.now c.args.end c.args.first));
+      (λ bytes. refl);
   reads = reads_up (g.I.Images.seen c.args.images.now) (g.I.Images.seen c.args.images.now) (reads_none (g.I.Images.seen c.args.images.now)) (omega arith);
   stays = refl;
 }
 
 pub loop-done-preserved : goal.loop-done-preserved
+unfolding sectors_of
 loop-done-preserved g c =
     let run : ℕ = c.step_at-run.result in
     let long : length c.read_step.new.to ≡ 512 * run = omega arith in
@@ -43,7 +45,7 @@ loop-done-preserved g c =
           (λ bytes. take (512 * c.loop-done.done) c.loop-done.to ≡ sectors_of bytes c.args.set.now c.args.end c.args.first c.loop-done.done)
           (λ bytes. c.read_step.new.to ≡ sectors_of bytes c.args.set.now c.args.end (c.args.first + c.loop-done.done) run)
           (λ bytes. take (512 * (c.loop-done.done + run)) (put_mid (512 * c.loop-done.done) _ c.loop-done.to c.read_step.new.to) ≡ sectors_of bytes c.args.set.now c.args.end c.args.first (c.loop-done.done + run))
-          (λ bytes before now. run_on bytes c.args.set.now c.args.end c.args.first c.loop-done.done run _ c.loop-done.to c.read_step.new.to within long before now)
+          (λ bytes before now. flat_on (near_sector bytes c.args.set.now c.args.end) c.args.first c.loop-done.done run (c.loop-done.done + run) _ c.loop-done.to c.read_step.new.to refl long within before now)
           c.loop-done.invariant.told
           (rw (← c.loop-done.invariant.reads.attached) (search rules));
       reads = reads_up (g.I.Images.seen c.args.images.now) (g.I.Images.seen c.read_step.new.images)

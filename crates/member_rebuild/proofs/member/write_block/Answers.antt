@@ -8,7 +8,8 @@ use Rattle.virtual_volume.proofs.Fronts.{front_none, puts_err}
 use Rattle.member_regions.proofs.IfTold.{if_any, if_both}
 use Rattle.lost_members.proofs.NeededRows.{reads_data}
 use Rattle.member_rebuild.specs.Sectors.{sectors_of}
-use Rattle.member_rebuild.proofs.Parts.{part_is, puts_as}
+use Rattle.member_rebuild.proofs.Parts.{part_is}
+use Rattle.virtual_volume.proofs.Fronts.{puts_as}
 use Rattle.member_rebuild.proofs.member.write_block.Goals as goal
 
 pub returns-in_err-map_err-clause-put : goal.returns-in_err-map_err-clause-put

@@ -5,20 +5,23 @@ use Rattle.outside.specs.Streams.{AppendsFront, AppendsSectors, Puts}
 use Rattle.outside.proofs.Reading.{reads_none, reads_up}
 use Rattle.member_regions.proofs.Held.{reads_on}
 use Rattle.raid_params.specs.Size.{data_blocks}
-use Rattle.virtual_volume.proofs.Fronts.{puts_err}
+use Rattle.virtual_volume.proofs.Fronts.{appends_none, puts_err, sectors_cut, sectors_first, sectors_on}
 use Rattle.member_regions.proofs.IfTold.{if_any, if_both, if_told}
 use Rattle.member_rebuild.specs.Sectors.{sectors_of}
 use Rattle.member_regions.specs.declared.regions.TheConstants.{BLOCK}
 use Rattle.member_rebuild.proofs.Ahead.{ahead_at_end, ahead_at_error}
-use Rattle.member_rebuild.proofs.Parts.{block_held, sectors_cut, sectors_first, sectors_on, sectors_start}
+use Rattle.member_rebuild.proofs.Parts.{block_held}
+use Rattle.raid_terms.specs.Volume.{member_sector}
+use Rattle.virtual_volume.proofs.Blocks.{sector_long}
 use Rattle.member_rebuild.proofs.member.write_sectors.Goals as goal
 
 pub loop-first-init : goal.loop-first-init
+unfolding sectors_of
 loop-first-init g c = record {
   put =
       if_any (told_all (g.I.Images.seen c.args.images.now).attached)
       (λ bytes. Appends (g.K.Sink.gained c.args.sink.now) (g.K.Sink.gained c.args.sink.now) (sectors_of bytes c.args.geo.now c.args.slot 0 0))
-      (λ bytes. sectors_start bytes c.args.geo.now c.args.slot (g.K.Sink.gained c.args.sink.now));
+      (λ bytes. appends_none (g.K.Sink.gained c.args.sink.now));
   reads = reads_up (g.I.Images.seen c.args.images.now) (g.I.Images.seen c.args.images.now) (reads_none (g.I.Images.seen c.args.images.now)) (omega arith);
   images_stay = refl;
   sink_stays = refl;
@@ -34,6 +37,7 @@ write_block-requires-clause-held g c =
     c.loop-first.invariant.reads.attached few c.requires.held
 
 pub returns-in_err-write_block-clause-put : goal.returns-in_err-write_block-clause-put
+unfolding sectors_of
 returns-in_err-write_block-clause-put g c =
     let few : c.loop-first.first + c.min-count.result ≤ c.args.sectors = omega arith in
     if_both (told_all (g.I.Images.seen c.args.images.now).attached)
@@ -42,11 +46,12 @@ returns-in_err-write_block-clause-put g c =
     (λ bytes. Puts (g.K.Sink.gained c.args.sink.now) (g.K.Sink.gained c.write_block.new.sink) c.from_residual.result (sectors_of bytes c.args.geo.now c.args.slot 0 c.args.sectors))
     (λ bytes p q.
     puts_err (g.K.Sink.gained c.args.sink.now) (g.K.Sink.gained c.write_block.new.sink) (sectors_of bytes c.args.geo.now c.args.slot 0 c.args.sectors) c.from_residual.result c.from_residual.ensures.0
-    (sectors_cut bytes c.args.geo.now c.args.slot c.loop-first.first c.min-count.result c.args.sectors (g.K.Sink.gained c.args.sink.now) (g.K.Sink.gained c.loop-first.sink) (g.K.Sink.gained c.write_block.new.sink) few p q))
+    (sectors_cut (member_sector bytes c.args.geo.now c.args.slot) c.loop-first.first c.min-count.result c.args.sectors (g.K.Sink.gained c.args.sink.now) (g.K.Sink.gained c.loop-first.sink) (g.K.Sink.gained c.write_block.new.sink) few p q))
     c.loop-first.invariant.put
     (rw (← c.loop-first.invariant.reads.attached) c.in_err-write_block.ensures.put)
 
 pub returns-in_err-write_block-clause-whole : goal.returns-in_err-write_block-clause-whole
+unfolding sectors_of
 returns-in_err-write_block-clause-whole g c = λ is.
     let few : c.loop-first.first ≤ c.args.sectors = omega arith in
     let still : g.K.Sink.gained c.write_block.new.sink ≡ g.K.Sink.gained c.loop-first.sink = c.in_err-write_block.ensures.unput (search rules) in
@@ -55,7 +60,7 @@ returns-in_err-write_block-clause-whole g c = λ is.
     (if_told (told_all (g.I.Images.seen c.args.images.now).attached)
     (λ bytes. Appends (g.K.Sink.gained c.args.sink.now) (g.K.Sink.gained c.loop-first.sink) (sectors_of bytes c.args.geo.now c.args.slot 0 c.loop-first.first))
     (λ bytes. AppendsSectors (g.K.Sink.gained c.args.sink.now) (g.K.Sink.gained c.loop-first.sink) (sectors_of bytes c.args.geo.now c.args.slot 0 c.args.sectors))
-    (λ bytes p. sectors_first bytes c.args.geo.now c.args.slot c.loop-first.first c.args.sectors (g.K.Sink.gained c.args.sink.now) (g.K.Sink.gained c.loop-first.sink) few p)
+    (λ bytes p. sectors_first (member_sector bytes c.args.geo.now c.args.slot) c.loop-first.first c.args.sectors (g.K.Sink.gained c.args.sink.now) (g.K.Sink.gained c.loop-first.sink) (sector_long bytes c.args.geo.now c.args.slot) few p)
     c.loop-first.invariant.put)
 
 pub returns-in_err-write_block-clause-reads : goal.returns-in_err-write_block-clause-reads
@@ -65,6 +70,7 @@ returns-in_err-write_block-clause-reads g c =
     c.loop-first.first c.min-count.result c.args.sectors c.loop-first.invariant.reads c.write_block.ensures.reads few
 
 pub loop-first-preserved : goal.loop-first-preserved
+unfolding sectors_of
 loop-first-preserved g c = record {
   put =
       if_both (told_all (g.I.Images.seen c.args.images.now).attached)
@@ -72,7 +78,7 @@ loop-first-preserved g c = record {
       (λ bytes. Appends (g.K.Sink.gained c.loop-first.sink) (g.K.Sink.gained c.write_block.new.sink) (sectors_of bytes c.args.geo.now c.args.slot c.loop-first.first c.min-count.result))
       (λ bytes. Appends (g.K.Sink.gained c.args.sink.now) (g.K.Sink.gained c.write_block.new.sink) (sectors_of bytes c.args.geo.now c.args.slot 0 (c.loop-first.first + c.min-count.result)))
       (λ bytes p q.
-      sectors_on bytes c.args.geo.now c.args.slot c.loop-first.first c.min-count.result (g.K.Sink.gained c.args.sink.now) (g.K.Sink.gained c.loop-first.sink) (g.K.Sink.gained c.write_block.new.sink) p q)
+      sectors_on (member_sector bytes c.args.geo.now c.args.slot) c.loop-first.first c.min-count.result (g.K.Sink.gained c.args.sink.now) (g.K.Sink.gained c.loop-first.sink) (g.K.Sink.gained c.write_block.new.sink) p q)
       c.loop-first.invariant.put
       (rw (← c.loop-first.invariant.reads.attached) c.in_ok-write_block.ensures.put);
   reads =

@@ -1,6 +1,6 @@
 -- Sectors of one chunk, on the volume and on the member that holds them.
-use Rattle.std.proofs.Common.{◌≡◌, ℕ, ◌+◌, ◌-◌, ◌*◌, ◌/◌, ◌%◌, ◌^◌, ◌<◌, ◌≤◌, List, sym, ap, ◌∙◌, arith}
-use Rattle.std.proofs.lemmas.Nat.{div-add-mod', div-mul-add, mod-mul-add, mul-le}
+use Rattle.std.proofs.Common.{◌≡◌, ℕ, ◌+◌, ◌-◌, ◌*◌, ◌/◌, ◌%◌, ◌^◌, ◌<◌, ◌≤◌, List, true, sym, ap, ◌∙◌, arith}
+use Rattle.std.proofs.lemmas.Nat.{mul-le}
 use Rattle.outside.specs.Seen.{Image}
 use Rattle.address_map.proofs.Heads.{few_data, some_chunk, some_data, volume_fits}
 use Rattle.address_map.proofs.Sectors.{row_below}
@@ -13,27 +13,16 @@ use Rattle.raid_terms.specs.Address.{home_item, home_row, home_sector, home_slot
 use Rattle.raid_terms.specs.Role.{item_of}
 use Rattle.raid_terms.specs.Volume.{member_sector, volume_sector}
 use Rattle.virtual_volume.proofs.Blocks.{chunk_data}
+use Rattle.virtual_volume.proofs.InChunk.{later_place, same_chunk}
 use Rattle.virtual_volume.proofs.Puts.{item_data}
 use Rattle.virtual_volume.proofs.Ranges.{flat_same, flat_shift}
 use Rattle.virtual_volume.proofs.Sets.{served_end, served_head}
 use Rattle.virtual_volume.specs.Served.{IsServed}
-use Rattle.volume_device.specs.Kept.{LieAmong}
+use Rattle.volume_device.specs.Kept.{LieAmong, is_among}
+use Rattle.volume_device.proofs.Rows.{among_test}
 use Rattle.volume_device.specs.Sectors.{AreData, run_of, sectors_of}
 
--- a sector further on in the chunk lies in it
-pub same_chunk : (chunk v j : ℕ) → v % chunk + j < chunk → (v + j) / chunk ≡ v / chunk
-same_chunk chunk v j h =
-    let split : v / chunk * chunk + v % chunk ≡ v = div-add-mod' v chunk in
-    let place : v + j ≡ v / chunk * chunk + (v % chunk + j) = omega arith in
-    ap (λ (t : ℕ). t / chunk) place ∙ div-mul-add (v / chunk) chunk (v % chunk + j) h
-
-later_place : (chunk v j : ℕ) → v % chunk + j < chunk → (v + j) % chunk ≡ v % chunk + j
-later_place chunk v j h =
-    let split : v / chunk * chunk + v % chunk ≡ v = div-add-mod' v chunk in
-    let place : v + j ≡ v / chunk * chunk + (v % chunk + j) = omega arith in
-    ap (λ (t : ℕ). t % chunk) place ∙ mod-mul-add (v / chunk) chunk (v % chunk + j) h
-
--- it lies on the same slot, and as much further on there
+-- a sector further on in the chunk lies on the same slot, and as much further on there
 pub same_slot : (head : Head) (v j : ℕ) → v % head.chunk + j < head.chunk → home_slot head (v + j) ≡ home_slot head v
 same_slot head v j h = ap (λ (k : ℕ). item_of head (k / data_blocks head) (k % data_blocks head)) (same_chunk head.chunk v j h)
 
@@ -82,12 +71,12 @@ run_near geo end v n attached slot sector s lies below few =
 
 -- where sectors of the volume in one chunk lie among some member sectors, all of the run do
 pub run_among : (head : Head) (first count v n sector : ℕ) → 1 ≤ n → v % head.chunk + n ≤ head.chunk → sector ≡ home_sector head v → LieAmong head first count v n →
-    (first ≤ sector) × (sector + n ≤ first + count)
+    is_among first count sector n ≡ true
 run_among head first count v n sector some few is among =
     let low = (among v (omega arith) (omega arith)).0 in
     let high = (among (v + (n - 1)) (omega arith) (omega arith)).1 in
     let last = later_sector head v (n - 1) (omega arith) in
-    (omega arith, omega arith)
+    among_test first count sector n (omega arith) (omega arith)
 
 -- sectors among some are so in part
 pub among_part : (head : Head) (f c low count first n at k : ℕ) → f ≡ low → c ≡ count → first ≤ at → at + k ≤ first + n → LieAmong head low count first n → LieAmong head f c at k

@@ -18,8 +18,10 @@ use Rattle.raid_terms.specs.Address.{home_item, home_row, home_slot}
 use Rattle.volume_device.specs.Cost.{IsStep, cost_of, is_row_asked, is_there, part_cost, range_cost, row_sectors, step_cost}
 use Rattle.volume_device.specs.Kept.{HasRead}
 use Rattle.volume_device.specs.declared.kept.Kept.{Kept}
-use Rattle.volume_device.proofs.Chunks.{same_chunk, same_slot}
+use Rattle.virtual_volume.proofs.InChunk.{same_chunk}
+use Rattle.volume_device.proofs.Chunks.{same_slot}
 use Rattle.volume_device.proofs.Memory.{read_join, read_up}
+use Rattle.volume_device.proofs.Rows.{of_le}
 
 -- sums over ranges of numbers, in two parts
 sum_parts : (f : ℕ → ℕ) (a n m k b : ℕ) → k ≡ n + m → b ≡ a + n →
@@ -111,9 +113,6 @@ cost_some false d some = some
 not_le : (a b : ℕ) → b < a → nat_le a b ≡ false
 not_le a b h = grind (arith, nat_tests)
 
-le_true : (a b : ℕ) → a ≤ b → nat_le a b ≡ true
-le_true a b h = grind (arith, nat_tests)
-
 or_none : (a b : Bool) → b ≡ false → (a || b) ≡ a
 or_none true b e = refl
 or_none false b e = e
@@ -152,7 +151,7 @@ step_is_part geo first n less = ap (λ (b : Bool). if b then n else part_cost ge
 
 pub step_is_rows : (geo : Geometry) (first n : ℕ) → row_sectors geo.head ≤ n → step_cost geo first n ≡ n
 unfolding step_cost
-step_is_rows geo first n more = ap (λ (b : Bool). if b then n else part_cost geo first n) (le_true (row_sectors geo.head) n more)
+step_is_rows geo first n more = ap (λ (b : Bool). if b then n else part_cost geo first n) (of_le (row_sectors geo.head) n more)
 
 -- a part of a row costs what its sectors cost in the range
 part_in : (geo : Geometry) (first count s left n : ℕ) → 0 < row_sectors geo.head → s + left ≡ first + count → s % row_sectors geo.head + n ≤ row_sectors geo.head →

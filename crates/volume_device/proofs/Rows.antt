@@ -26,7 +26,7 @@ to_both false b e f = absurd (cc)
 le_of : (a b : ℕ) → nat_le a b ≡ true → a ≤ b
 le_of a b e = grind (arith, nat_tests)
 
-of_le : (a b : ℕ) → a ≤ b → nat_le a b ≡ true
+pub of_le : (a b : ℕ) → a ≤ b → nat_le a b ≡ true
 of_le a b h = grind (arith, nat_tests)
 
 pub among_bounds : (first count at n : ℕ) → is_among first count at n ≡ true → (first ≤ at) × (at + n ≤ first + count)

@@ -12,9 +12,10 @@ use Rattle.raid_params.specs.Size.{volume_sectors}
 use Rattle.raid_params.specs.declared.types.Geometry.{Geometry}
 use Rattle.raid_terms.specs.Address.{home_sector, home_slot}
 use Rattle.raid_terms.specs.Volume.{volume, volume_sector}
-use Rattle.volume_device.specs.Lengths.{copy_long, member_long}
 use Rattle.volume_device.specs.Sectors.{sectors_of}
-use Rattle.volume_device.proofs.Blocks.{all_blocks, flat_on, flat_slice}
+use Rattle.virtual_volume.proofs.Blocks.{flat_on, sector_long}
+use Rattle.near_volume.proofs.Runs.{copy_long}
+use Rattle.volume_device.proofs.Blocks.{all_blocks, flat_slice}
 
 pub told_start : (told : Option (List (List ℕ))) (f : List (List ℕ) → ℕ → List ℕ) (first : ℕ) (to : List ℕ) → IfSome told (λ bytes. take (512 * 0) to ≡ flat_map (f bytes) (range_with_len first 0))
 told_start None f first to = tt
@@ -26,7 +27,7 @@ pub told_on : (told : Option (List (List ℕ))) (f : List (List ℕ) → ℕ →
 told_on told f first at next n k to run le is long within before here =
     if_both told (λ bytes. take (512 * at) to ≡ flat_map (f bytes) (range_with_len first at)) (λ bytes. run ≡ flat_map (f bytes) (range_with_len (first + at) n))
     (λ bytes. take (512 * next) (put_mid (512 * at) k to run) ≡ flat_map (f bytes) (range_with_len first next))
-    (λ bytes p q. flat_on (f bytes) first at next k to run le (omega arith) within p (q ∙ ap (λ (m : ℕ). flat_map (f bytes) (range_with_len (first + at) m)) is))
+    (λ bytes p q. flat_on (f bytes) first at n next k to run (omega arith) long within p q)
     before here
 
 pub told_all_of : (told : Option (List (List ℕ))) (f : List (List ℕ) → ℕ → List ℕ) (first at n : ℕ) (to : List ℕ) → at ≡ n → length to ≡ 512 * n →
@@ -59,7 +60,7 @@ unfolding sectors_of
 device_told told geo end first n bytes (Err e) to size inside read = tt
 device_told None geo end first n bytes (Ok r) to size inside read = tt
 device_told (Some images) geo end first n bytes (Ok r) to size inside read =
-    read ∙ sym (flat_slice (volume_sector images geo) (volume_sectors geo.head end) first n (λ v. member_long images geo (home_slot geo.head v) (home_sector geo.head v)) inside)
+    read ∙ sym (flat_slice (volume_sector images geo) (volume_sectors geo.head end) first n (λ v. sector_long images geo (home_slot geo.head v) (home_sector geo.head v)) inside)
     ∙ ap (λ (k : ℕ). slice_range (volume images geo end) (512 * first) (512 * first + k)) (sym size)
 
 pub near_told : {T E : Type 0} (told : Option (List (List ℕ))) (set : NearSet) (end first n bytes : ℕ) (result : Result T E) (to : List ℕ) → bytes ≡ 512 * n → first + n ≤ near_sectors set.head end →

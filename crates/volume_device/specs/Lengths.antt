@@ -1,32 +1,23 @@
 -- The bytes of volumes, where the images are known: 512 for each sector.
-use Rattle.std.proofs.Common.{ℕ, zero, suc, ◌≡◌, ◌+◌, ◌*◌, List, length, Option, None, Some, refl, ◌∙◌, slice_index_or, arith, length-append}
+use Rattle.std.proofs.Common.{ℕ, ◌≡◌, ◌*◌, List, length, Option, None, Some, arith}
 use Rattle.std.specs.List.{flat_map, range_with_len}
 use Rattle.std.specs.Option.{option_map}
-use Rattle.std.proofs.lemmas.List.FromFn.{length-map-range_with_len}
 use Rattle.raid_params.specs.Size.{volume_sectors}
 use Rattle.raid_params.specs.declared.types.Geometry.{Geometry}
 use Rattle.raid_terms.specs.Address.{home_sector, home_slot}
-use Rattle.raid_terms.specs.Parity.{member_byte}
-use Rattle.raid_terms.specs.Volume.{byte_in, member_sector, volume, volume_sector}
-use Rattle.near_mirror.specs.Copies.{copy_sector, near_sectors}
-use Rattle.near_mirror.specs.Volume.{copy_image, home_copy}
+use Rattle.raid_terms.specs.Volume.{volume, volume_sector}
+use Rattle.near_mirror.specs.Copies.{near_sectors}
+use Rattle.near_mirror.specs.Volume.{home_copy}
 use Rattle.near_mirror.specs.declared.types.NearSet.{NearSet}
-use Rattle.near_volume.specs.Sectors.{copy_bytes, near_sector, near_volume}
+use Rattle.near_volume.specs.Sectors.{near_sector, near_volume}
+use Rattle.virtual_volume.proofs.Blocks.{sector_long}
+use Rattle.virtual_volume.proofs.Ranges.{flat_long as lists_long}
+use Rattle.near_volume.proofs.Runs.{copy_long}
 use Rattle.block_device.specs.Content.{IsContent}
 
 -- lists of 512 bytes, one after the other
 pub flat_long : (f : ℕ → List ℕ) (first n : ℕ) → ((v : ℕ) → length (f v) ≡ 512) → length (flat_map f (range_with_len first n)) ≡ 512 * n
-flat_long f first zero each = refl
-flat_long f first (suc n) each =
-    length-append (f first) (flat_map f (range_with_len (first + 1) n)) ∙ omega (arith, each first, flat_long f (first + 1) n each)
-
-pub member_long : (images : List (List ℕ)) (geo : Geometry) (slot t : ℕ) → length (member_sector images geo slot t) ≡ 512
-unfolding member_sector
-member_long images geo slot t = length-map-range_with_len (λ x. byte_in images geo t slot x (slice_index_or geo.slots.items slot None)) 0 512
-
-pub copy_long : (images : List (List ℕ)) (set : NearSet) (end v copy : ℕ) → length (copy_bytes images set end v copy) ≡ 512
-unfolding copy_bytes
-copy_long images set end v copy = length-map-range_with_len (λ x. member_byte images set.head.offset (copy_sector set.head end copy v) x (copy_image set copy v)) 0 512
+flat_long f first n each = omega (arith, lists_long f 512 first n each)
 
 -- the volume of a set, and that of a mirror
 abbrev pub volume_told : Option (List (List ℕ)) → Geometry → ℕ → Option (List ℕ)
@@ -38,7 +29,7 @@ mirror_told told set end = option_map (λ images. near_volume images set end) to
 pub volume_whole : (told : Option (List (List ℕ))) (geo : Geometry) (end : ℕ) → IsContent (volume_told told geo end) (volume_sectors geo.head end)
 volume_whole None geo end = tt
 volume_whole (Some images) geo end =
-    flat_long (volume_sector images geo) 0 (volume_sectors geo.head end) (λ v. member_long images geo (home_slot geo.head v) (home_sector geo.head v))
+    flat_long (volume_sector images geo) 0 (volume_sectors geo.head end) (λ v. sector_long images geo (home_slot geo.head v) (home_sector geo.head v))
 
 pub mirror_whole : (told : Option (List (List ℕ))) (set : NearSet) (end : ℕ) → IsContent (mirror_told told set end) (near_sectors set.head end)
 mirror_whole None set end = tt

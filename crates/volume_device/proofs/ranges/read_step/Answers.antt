@@ -28,9 +28,9 @@ nonzero_div-count-2 g c =
     omega (arith, some)
 
 -- whole rows of the volume are as many rows of chunks, which lie before the end
-whole_rows : (geo : Geometry) (end first n row : ℕ) (attached : List Image) → IsServed geo end attached → row ≡ row_sectors geo.head → row ≤ n → first % row_sectors geo.head ≡ 0 → n % row_sectors geo.head ≡ 0 → first + n ≤ volume_sectors geo.head end →
+whole_rows : {geo : Geometry} {end row : ℕ} {attached : List Image} (first n : ℕ) → IsServed geo end attached → row ≡ row_sectors geo.head → row ≤ n → first % row_sectors geo.head ≡ 0 → n % row_sectors geo.head ≡ 0 → first + n ≤ volume_sectors geo.head end →
     (first / row * row_sectors geo.head ≡ first) × (n / row * row_sectors geo.head ≡ n) × (1 ≤ n / row) × (geo.head.offset + (first / row * geo.head.chunk + n / row * geo.head.chunk) ≤ end)
-whole_rows geo end first n row attached s is more begins whole inside =
+whole_rows {geo} {end} {row} {attached} first n s is more begins whole inside =
     let valid = served_head geo end attached s in
     let some = some_chunk geo.head valid in
     let pos = row_some geo.head valid in
@@ -60,31 +60,27 @@ returns-then-count-row-clause-read g c =
 
 pub overflow_mul-first : goal.overflow_mul-first
 overflow_mul-first g c =
-    let rows = whole_rows c.args.geo.now c.args.end c.args.first (length c.args.to.now / 512) c.row_sectors-row.result (g.I.Images.seen c.args.images.now).attached c.requires.can.set c.row_sectors-row.ensures (omega arith)
-    (c.requires.begins (omega arith)) (c.requires.rows (omega arith)) c.requires.inside in
+    let rows = whole_rows c.args.first (length c.args.to.now / 512) c.requires.can.set c.row_sectors-row.ensures (omega arith) (c.requires.begins (omega arith)) (c.requires.rows (omega arith)) c.requires.inside in
     let within = rows.3 in
     omega (arith, within, c.requires.can.set.near)
 
 pub fill-requires-clause-can : goal.fill-requires-clause-can
 fill-requires-clause-can g c =
     let geo = c.args.geo.now in
-    let rows = whole_rows c.args.geo.now c.args.end c.args.first (length c.args.to.now / 512) c.row_sectors-row.result (g.I.Images.seen c.args.images.now).attached c.requires.can.set c.row_sectors-row.ensures (omega arith)
-    (c.requires.begins (omega arith)) (c.requires.rows (omega arith)) c.requires.inside in
+    let rows = whole_rows c.args.first (length c.args.to.now / 512) c.requires.can.set c.row_sectors-row.ensures (omega arith) (c.requires.begins (omega arith)) (c.requires.rows (omega arith)) c.requires.inside in
     let same : length c.args.to.now / 512 / c.row_sectors-row.result * geo.head.chunk ≡ length c.args.to.now / 512 / row_sectors geo.head * geo.head.chunk = ap (λ (k : ℕ). length c.args.to.now / 512 / k * geo.head.chunk) c.row_sectors-row.ensures in
     can_keep (c.args.first / c.row_sectors-row.result * geo.head.chunk) (length c.args.to.now / 512 / c.row_sectors-row.result * geo.head.chunk) c.requires.can (omega (arith, same, c.requires.short)) rows.3
 
 pub fill-requires-clause-some : goal.fill-requires-clause-some
 fill-requires-clause-some g c =
     let valid = served_head c.args.geo.now c.args.end (g.I.Images.seen c.args.images.now).attached c.requires.can.set in
-    let rows = whole_rows c.args.geo.now c.args.end c.args.first (length c.args.to.now / 512) c.row_sectors-row.result (g.I.Images.seen c.args.images.now).attached c.requires.can.set c.row_sectors-row.ensures (omega arith)
-    (c.requires.begins (omega arith)) (c.requires.rows (omega arith)) c.requires.inside in
+    let rows = whole_rows c.args.first (length c.args.to.now / 512) c.requires.can.set c.row_sectors-row.ensures (omega arith) (c.requires.begins (omega arith)) (c.requires.rows (omega arith)) c.requires.inside in
     some_sectors (length c.args.to.now / 512 / c.row_sectors-row.result) c.args.geo.now.head.chunk rows.2 (some_chunk c.args.geo.now.head valid)
 
 pub returns-in_err-fill-clause-read : goal.returns-in_err-fill-clause-read
 returns-in_err-fill-clause-read g c =
     let geo = c.args.geo.now in
-    let rows = whole_rows c.args.geo.now c.args.end c.args.first (length c.args.to.now / 512) c.row_sectors-row.result (g.I.Images.seen c.args.images.now).attached c.requires.can.set c.row_sectors-row.ensures (omega arith)
-    (c.requires.begins (omega arith)) (c.requires.rows (omega arith)) c.requires.inside in
+    let rows = whole_rows c.args.first (length c.args.to.now / 512) c.requires.can.set c.row_sectors-row.ensures (omega arith) (c.requires.begins (omega arith)) (c.requires.rows (omega arith)) c.requires.inside in
     let many = rows.1 in
     let turned : data_blocks geo.head * (length c.args.to.now / 512 / c.row_sectors-row.result * geo.head.chunk) ≡ length c.args.to.now / 512 / c.row_sectors-row.result * row_sectors geo.head = grind arith in
     read_up c.fill.ensures.read (omega (arith, turned, many, step_is_rows geo c.args.first (length c.args.to.now / 512) (omega arith)))
@@ -96,8 +92,7 @@ pub returns-clause-read : goal.returns-clause-read
 returns-clause-read g c =
     let geo = c.args.geo.now in
     let valid = served_head geo c.args.end (g.I.Images.seen c.args.images.now).attached c.requires.can.set in
-    let rows = whole_rows c.args.geo.now c.args.end c.args.first (length c.args.to.now / 512) c.row_sectors-row.result (g.I.Images.seen c.args.images.now).attached c.requires.can.set c.row_sectors-row.ensures (omega arith)
-    (c.requires.begins (omega arith)) (c.requires.rows (omega arith)) c.requires.inside in
+    let rows = whole_rows c.args.first (length c.args.to.now / 512) c.requires.can.set c.row_sectors-row.ensures (omega arith) (c.requires.begins (omega arith)) (c.requires.rows (omega arith)) c.requires.inside in
     let at = rows.0 in
     let many = rows.1 in
     let start : ℕ = c.args.first / c.row_sectors-row.result in

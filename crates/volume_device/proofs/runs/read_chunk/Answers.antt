@@ -9,7 +9,6 @@ use Rattle.volume_device.specs.Sectors.{sectors_of}
 use Rattle.volume_device.proofs.Chunks.{chunk_run, run_among, run_data}
 use Rattle.volume_device.proofs.Copies.{read_told}
 use Rattle.volume_device.proofs.Memory.{chunk_kept}
-use Rattle.volume_device.proofs.Rows.{among_test}
 use Rattle.volume_device.proofs.runs.read_chunk.Goals as goal
 
 pub locate-requires-clause-head : goal.locate-requires-clause-head
@@ -44,8 +43,7 @@ returns-then-not-has-clause-told g c =
 
 pub returns-then-not-has-clause-still : goal.returns-then-not-has-clause-still
 returns-then-not-has-clause-still g c = λ among.
-    let bounds = run_among c.args.geo.now.head c.args.kept.now.first c.args.kept.now.count c.args.first (length c.args.to.now / 512) c.in-Some.home.sector (omega arith) c.requires.chunk c.in-Some.ensures.lies.place among in
-    let has : c.has.result ≡ true = c.has.ensures ∙ among_test c.args.kept.now.first c.args.kept.now.count c.in-Some.home.sector (length c.args.to.now / 512) bounds.0 bounds.1 in
+    let has : c.has.result ≡ true = c.has.ensures ∙ run_among c.args.geo.now.head c.args.kept.now.first c.args.kept.now.count c.args.first (length c.args.to.now / 512) c.in-Some.home.sector (omega arith) c.requires.chunk c.in-Some.ensures.lies.place among in
     absurd (cc)
 
 pub fill-requires-clause-can : goal.fill-requires-clause-can
@@ -54,8 +52,7 @@ fill-requires-clause-can g c =
 
 pub returns-in_err-fill-clause-still : goal.returns-in_err-fill-clause-still
 returns-in_err-fill-clause-still g c = λ among.
-    let bounds = run_among c.args.geo.now.head c.args.kept.now.first c.args.kept.now.count c.args.first (length c.args.to.now / 512) c.in-Some.home.sector (omega arith) c.requires.chunk c.in-Some.ensures.lies.place among in
-    c.fill.ensures.still (among_test c.args.kept.now.first c.args.kept.now.count c.in-Some.home.sector (length c.args.to.now / 512) bounds.0 bounds.1)
+    c.fill.ensures.still (run_among c.args.geo.now.head c.args.kept.now.first c.args.kept.now.count c.args.first (length c.args.to.now / 512) c.in-Some.home.sector (omega arith) c.requires.chunk c.in-Some.ensures.lies.place among)
 
 pub returns-clause-told : goal.returns-clause-told
 returns-clause-told g c =
@@ -73,5 +70,4 @@ returns-clause-told g c =
 
 pub returns-clause-still : goal.returns-clause-still
 returns-clause-still g c = λ among.
-    let bounds = run_among c.args.geo.now.head c.args.kept.now.first c.args.kept.now.count c.args.first (length c.args.to.now / 512) c.in-Some.home.sector (omega arith) c.requires.chunk c.in-Some.ensures.lies.place among in
-    c.fill.ensures.still (among_test c.args.kept.now.first c.args.kept.now.count c.in-Some.home.sector (length c.args.to.now / 512) bounds.0 bounds.1)
+    c.fill.ensures.still (run_among c.args.geo.now.head c.args.kept.now.first c.args.kept.now.count c.args.first (length c.args.to.now / 512) c.in-Some.home.sector (omega arith) c.requires.chunk c.in-Some.ensures.lies.place among)

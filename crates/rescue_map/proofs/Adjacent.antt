@@ -3,8 +3,8 @@ use Rattle.std.proofs.Common.{ℕ, zero, suc, inl, inr, ◌⊎◌, ◌≡◌, �
 use Rattle.std.specs.Option.{is_none, is_some}
 use Rattle.std.proofs.Common.{take, drop}
 use Rattle.std.proofs.lemmas.List.{get_or-map, length-drop, length-take}
-use Rattle.std.proofs.lemmas.Nat.{div-add-mod', div-mul-add, mod-mul-add}
 use Rattle.outside.specs.Seen.{OnlyReads, Seen}
+use Rattle.member_regions.proofs.Alike.{later_byte}
 use Rattle.member_regions.specs.Members.{held}
 use Rattle.raid_params.specs.Size.{data_blocks}
 use Rattle.raid_params.specs.declared.types.Head.{Head}
@@ -18,18 +18,7 @@ use Rattle.rescue_map.proofs.Blocks.{reads_one, reads_parts, reads_some}
 use Rattle.rescue_map.proofs.Found.{copied_found, filled_copied, known_home, known_not_lost, some_not_none, unknown_home}
 use Rattle.rescue_map.proofs.Rows.{held_home, known_or}
 use Rattle.rescue_text.specs.declared.section.Section.{Section}
-
-same_chunk : (chunk v j : ℕ) → v % chunk + j < chunk → (v + j) / chunk ≡ v / chunk
-same_chunk chunk v j h =
-    let split : v / chunk * chunk + v % chunk ≡ v = div-add-mod' v chunk in
-    let place : v + j ≡ v / chunk * chunk + (v % chunk + j) = omega arith in
-    ap (λ (t : ℕ). t / chunk) place ∙ div-mul-add (v / chunk) chunk (v % chunk + j) h
-
-later_place : (chunk v j : ℕ) → v % chunk + j < chunk → (v + j) % chunk ≡ v % chunk + j
-later_place chunk v j h =
-    let split : v / chunk * chunk + v % chunk ≡ v = div-add-mod' v chunk in
-    let place : v + j ≡ v / chunk * chunk + (v % chunk + j) = omega arith in
-    ap (λ (t : ℕ). t % chunk) place ∙ mod-mul-add (v / chunk) chunk (v % chunk + j) h
+use Rattle.virtual_volume.proofs.InChunk.{later_place, same_chunk}
 
 -- a sector further on in the chunk lies as much further on its member
 pub later_lies : (head : Head) (slot sector v j : ℕ) → LiesAt head slot sector v → v % head.chunk + j < head.chunk → LiesAt head slot (sector + j) (v + j)
@@ -86,12 +75,6 @@ held_later sections set slot sector v lies below known =
 pub held_some : (sections : List Section) (set : Wide) (slot sector v : ℕ) (held : Option ℕ) → LiesAt set.geo.head slot sector v → slot < length set.geo.slots.items → held ≡ get_or set.geo.slots.items slot None → is_unknown sections set v ≡ false → is_none held ≡ false
 held_some sections set slot sector v held lies below here known =
     ap is_none (here ∙ sym (held_later sections set slot sector v lies below known) ∙ held_home sections set v slot sector (damaged sections set sector) refl lies) ∙ known
-
-later_byte : (images : List (List ℕ)) (offset t j x : ℕ) (held : Option ℕ) → member_byte images offset t (512 * j + x) held ≡ member_byte images offset (t + j) x held
-later_byte images offset t j x None = refl
-later_byte images offset t j x (Some i) =
-    let place : 512 * (offset + t) + (512 * j + x) ≡ 512 * (offset + (t + j)) + x = omega arith in
-    ap (λ (k : ℕ). get_or (get_or images i []) k 0) place
 
 offset_at : (sections : List Section) (set : Wide) (t : ℕ) → set.geo.head.offset ≡ (damaged sections set t).head.offset
 unfolding damaged

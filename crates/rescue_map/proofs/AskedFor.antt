@@ -9,7 +9,7 @@ use Rattle.row_parity.proofs.Regions.{mid_before, mid_inside}
 use Rattle.rescue_map.specs.Damaged.{is_lost, AreAllGood, IsDamaged}
 use Rattle.rescue_map.specs.Salvaged.{salvaged_sector, salvaged_sectors, AreKnown, AreSalvaged}
 use Rattle.rescue_map.proofs.Adjacent.{later_lies}
-use Rattle.rescue_map.proofs.Blocks.{blocks_are}
+use Rattle.virtual_volume.proofs.Blocks.{blocks_are}
 use Rattle.rescue_map.proofs.Found.{known_not_lost, salvaged_long}
 use Rattle.rescue_map.proofs.Passed.{good_row}
 use Rattle.rescue_text.specs.declared.section.Section.{Section}

@@ -1,5 +1,5 @@
 -- How far the reading is ahead of what was put.
-use Rattle.std.proofs.Common.{ℕ, ◌≡◌, ◌+◌, ◌-◌, ◌*◌, ◌/◌, ◌≤◌, min, List, [], length, take, Option, None, Some, IfSome, Result, Ok, Err, refl, ap, ◌∙◌, arith, length-append}
+use Rattle.std.proofs.Common.{ℕ, ◌≡◌, ◌+◌, ◌-◌, ◌*◌, ◌/◌, ◌≤◌, min, List, [], length, Option, None, Some, IfSome, Result, Ok, Err, refl, ap, arith}
 use Rattle.std.specs.Io.KnownBytes.{Appends}
 use Rattle.std.specs.Result.{IsErrOf}
 use Rattle.member_regions.proofs.IfTold.{if_any}
@@ -11,7 +11,7 @@ use Rattle.raid_params.specs.declared.wide.Wide.{Wide}
 use Rattle.rescue_map.specs.Salvaged.{reads_for_all, salvaged_sectors, IsReadAhead, Salvages}
 use Rattle.rescue_map.proofs.Blocks.{reads_parts, sectors_long}
 use Rattle.rescue_text.specs.declared.section.Section.{Section}
-use Rattle.virtual_volume.proofs.Fronts.{front_none}
+use Rattle.virtual_volume.proofs.Fronts.{front_none, gained_long}
 use Rattle.virtual_volume.specs.declared.volume.VolumeFault.{VolumeFault}
 use Rattle.virtual_volume.specs.declared.volume.VolumeFault.TheVariants.{ReadFault, WriteFault, Memory}
 
@@ -21,14 +21,11 @@ reads_grow sections set n m le = omega (arith, reads_parts sections set 0 n (m -
 -- a sink that gained so many sectors, and a front of more
 gained : (sections : List Section) (set : Wide) (sectors first count from to : ℕ) (a b c : Option (List ℕ)) (front after : List ℕ) → length front ≡ 512 * first → first + count ≤ sectors → count ≤ BLOCK →
     to ≤ from + reads_for_all sections set 0 (first + count) → Appends a b front → AppendsFront b c after → IsReadAhead sections set sectors from to a c
-gained sections set sectors first count from to None b c front after long within few read p q = tt
-gained sections set sectors first count from to (Some xs) None c front after long within few read p q = absurd p
-gained sections set sectors first count from to (Some xs) (Some ys) None front after long within few read p q = absurd q.2
-gained sections set sectors first count from to (Some xs) (Some ys) (Some zs) front after long within few read p q =
-    let grown : length ys ≡ length xs + length front = ap (λ (l : List ℕ). length l) p ∙ length-append xs front in
-    let more : length zs ≡ length ys + length (take q.0 after) = ap (λ (l : List ℕ). length l) q.2 ∙ length-append ys (take q.0 after) in
-    let all = reads_grow sections set (first + count) (min sectors ((length zs - length xs) / 512 + BLOCK)) (omega arith) in
-    omega arith
+gained sections set sectors first count from to a b c front after long within few read p q =
+    gained_long (λ before more. to ≤ from + reads_for_all sections set 0 (min sectors ((more - before) / 512 + BLOCK))) a b c front after p q
+    (λ before more grown.
+    let all = reads_grow sections set (first + count) (min sectors ((more - before) / 512 + BLOCK)) (omega arith) in
+    omega arith)
 
 pub ahead_at_error : (told : Option (List (List ℕ))) (sections : List Section) (set : Wide) (old mid new : Seen) (sectors first count n : ℕ) (a b c : Option (List ℕ)) → n ≡ count → first + count ≤ sectors → count ≤ BLOCK →
     OnlyReads old mid (reads_for_all sections set 0 first) → OnlyReads mid new (reads_for_all sections set first n) →

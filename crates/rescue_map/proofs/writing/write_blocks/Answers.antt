@@ -8,20 +8,22 @@ use Rattle.virtual_volume.specs.declared.volume.VolumeFault.{VolumeFault}
 use Rattle.virtual_volume.specs.declared.volume.VolumeFault.TheVariants.{ReadFault, WriteFault, Memory}
 use Rattle.outside.specs.Attached.{told_all}
 use Rattle.outside.specs.Streams.{AppendsFront, AppendsSectors, Puts}
-use Rattle.virtual_volume.proofs.Fronts.{puts_err}
+use Rattle.virtual_volume.proofs.Fronts.{appends_none, puts_err, sectors_cut, sectors_first, sectors_on}
 use Rattle.member_regions.proofs.IfTold.{if_any, if_both, if_told}
-use Rattle.rescue_map.specs.Salvaged.{salvaged_sectors}
-use Rattle.rescue_map.proofs.Blocks.{part_count, reads_next, reads_some, reads_start, sectors_cut, sectors_first, sectors_on, sectors_start}
+use Rattle.rescue_map.specs.Salvaged.{salvaged_sector, salvaged_sectors}
+use Rattle.rescue_map.proofs.Blocks.{part_count, reads_next, reads_some, reads_start}
+use Rattle.rescue_map.proofs.Found.{salvaged_long}
 use Rattle.rescue_map.proofs.ReadAhead.{ahead_at_end, ahead_at_error}
 use Rattle.rescue_map.proofs.writing.write_blocks.Goals as goal
 
 pub loop-first-init : goal.loop-first-init
+unfolding salvaged_sectors
 loop-first-init g c =
     let damage = c.args.damage.now in record {
       put =
           if_any (told_all (g.I.Images.seen c.args.images.now).attached)
           (λ bytes. Appends (g.K.Sink.gained c.args.sink.now) (g.K.Sink.gained c.args.sink.now) (salvaged_sectors bytes damage.rescue.now damage.set.now 0 0))
-          (λ bytes. sectors_start bytes damage.rescue.now damage.set.now (g.K.Sink.gained c.args.sink.now));
+          (λ bytes. appends_none (g.K.Sink.gained c.args.sink.now));
       reads = reads_start (g.I.Images.seen c.args.images.now) damage.rescue.now damage.set.now;
       images_stay = refl;
       sink_stays = refl;
@@ -32,6 +34,7 @@ loop-first-init g c =
     }
 
 pub loop-first-preserved : goal.loop-first-preserved
+unfolding salvaged_sectors
 loop-first-preserved g c =
     let damage = c.args.damage.now in
     let count = c.min-count.result in
@@ -45,7 +48,7 @@ loop-first-preserved g c =
           (λ bytes. Appends (g.K.Sink.gained c.loop-first.sink) (g.K.Sink.gained c.write_block.new.sink) (salvaged_sectors bytes damage.rescue.now damage.set.now c.loop-first.first (length (take (512 * count) c.loop-first.block) / 512)))
           (λ bytes. Appends (g.K.Sink.gained c.args.sink.now) (g.K.Sink.gained c.write_block.new.sink) (salvaged_sectors bytes damage.rescue.now damage.set.now 0 (c.loop-first.first + count)))
           (λ bytes p q.
-          sectors_on bytes damage.rescue.now damage.set.now c.loop-first.first count (g.K.Sink.gained c.args.sink.now) (g.K.Sink.gained c.loop-first.sink) (g.K.Sink.gained c.write_block.new.sink) p
+          sectors_on (salvaged_sector bytes damage.rescue.now damage.set.now) c.loop-first.first count (g.K.Sink.gained c.args.sink.now) (g.K.Sink.gained c.loop-first.sink) (g.K.Sink.gained c.write_block.new.sink) p
           (subst (λ (k : ℕ). Appends (g.K.Sink.gained c.loop-first.sink) (g.K.Sink.gained c.write_block.new.sink) (salvaged_sectors bytes damage.rescue.now damage.set.now c.loop-first.first k)) same q))
           c.loop-first.invariant.put
           (rw (← c.loop-first.invariant.reads.attached) c.in_ok-write_block.ensures.put);
@@ -65,6 +68,7 @@ no_memory (Err WriteFault) ends is = absurd (cc)
 no_memory (Err Memory) ends is = ends
 
 pub returns-in_err-write_block-clause-salvages : goal.returns-in_err-write_block-clause-salvages
+unfolding salvaged_sectors
 returns-in_err-write_block-clause-salvages g c =
     let damage = c.args.damage.now in
     let count = c.min-count.result in
@@ -78,7 +82,7 @@ returns-in_err-write_block-clause-salvages g c =
           (λ bytes. Puts (g.K.Sink.gained c.args.sink.now) (g.K.Sink.gained c.write_block.new.sink) c.from_residual.result (salvaged_sectors bytes damage.rescue.now damage.set.now 0 c.args.sectors))
           (λ bytes p q.
           puts_err (g.K.Sink.gained c.args.sink.now) (g.K.Sink.gained c.write_block.new.sink) (salvaged_sectors bytes damage.rescue.now damage.set.now 0 c.args.sectors) c.from_residual.result c.from_residual.ensures.0
-          (sectors_cut bytes damage.rescue.now damage.set.now c.loop-first.first count c.args.sectors (g.K.Sink.gained c.args.sink.now) (g.K.Sink.gained c.loop-first.sink) (g.K.Sink.gained c.write_block.new.sink) few p
+          (sectors_cut (salvaged_sector bytes damage.rescue.now damage.set.now) c.loop-first.first count c.args.sectors (g.K.Sink.gained c.args.sink.now) (g.K.Sink.gained c.loop-first.sink) (g.K.Sink.gained c.write_block.new.sink) few p
           (subst (λ (k : ℕ). AppendsFront (g.K.Sink.gained c.loop-first.sink) (g.K.Sink.gained c.write_block.new.sink) (salvaged_sectors bytes damage.rescue.now damage.set.now c.loop-first.first k)) same q)))
           c.loop-first.invariant.put
           (rw (← c.loop-first.invariant.reads.attached) c.in_err-write_block.ensures.put);
@@ -90,7 +94,7 @@ returns-in_err-write_block-clause-salvages g c =
           (if_told (told_all (g.I.Images.seen c.args.images.now).attached)
           (λ bytes. Appends (g.K.Sink.gained c.args.sink.now) (g.K.Sink.gained c.loop-first.sink) (salvaged_sectors bytes damage.rescue.now damage.set.now 0 c.loop-first.first))
           (λ bytes. AppendsSectors (g.K.Sink.gained c.args.sink.now) (g.K.Sink.gained c.loop-first.sink) (salvaged_sectors bytes damage.rescue.now damage.set.now 0 c.args.sectors))
-          (λ bytes p. sectors_first bytes damage.rescue.now damage.set.now c.loop-first.first c.args.sectors (g.K.Sink.gained c.args.sink.now) (g.K.Sink.gained c.loop-first.sink) before p)
+          (λ bytes p. sectors_first (salvaged_sector bytes damage.rescue.now damage.set.now) c.loop-first.first c.args.sectors (g.K.Sink.gained c.args.sink.now) (g.K.Sink.gained c.loop-first.sink) (salvaged_long bytes damage.rescue.now damage.set.now) before p)
           c.loop-first.invariant.put);
       memory = λ is. absurd (no_memory c.from_residual.result (search rules) is);
       reads =

@@ -17,7 +17,7 @@ use Rattle.run_ends.specs.declared.stop.Refusal.{Refusal}
 use Rattle.run_ends.specs.declared.stop.Refusal.TheVariants.{RescueIsLong}
 use Rattle.run_ends.specs.declared.stop.Stop.{Stop}
 use Rattle.run_ends.specs.declared.stop.Stop.TheVariants.{Refused, ImageFault, SourceFault, OutFault, OutOfMemory}
-use Rattle.salvage_job.specs.Salvaging.{IsReady, IsUnreadable, IsUnready, IsUnrescued, line_refusal, rule_refusal, salvage_refusal, text_refusal}
+use Rattle.salvage_job.specs.Salvaging.{CannotBegin, IsReady, IsUnreadable, IsUnready, IsUnrescued, line_refusal, rule_refusal, salvage_refusal, text_refusal}
 use Rattle.salvage_job.specs.declared.salvaging.Ready.{Ready}
 use Rattle.set_jobs.proofs.Bases.{short_for}
 use Rattle.set_jobs.proofs.SetRefusals.{first_alone, images_kept}
@@ -88,13 +88,17 @@ unrescued names left text (Err stop) is short match = unreadable names left text
 pub unready_images : (set : Wide) (end : Option ℕ) (names : ℕ) (attached : List Image) (left : Option (List ℕ)) (refusal : Refusal) → images_refusal set end names attached ≡ Some refusal → IfSome left (λ text. salvage_refusal set end text names attached ≡ Some refusal)
 unready_images set end names attached left refusal e = all_left (λ text. salvage_refusal set end text names attached ≡ Some refusal) left (λ text. by_images set end text names attached refusal e)
 
+-- what refuses a text first refuses it
+pub later_refused : (first refused : List ℕ → Option Refusal) (left : Option (List ℕ)) (stop : Stop) → ((text : List ℕ) (refusal : Refusal) → first text ≡ Some refusal → refused text ≡ Some refusal) → CannotBegin first left stop → CannotBegin refused left stop
+later_refused first refused left (Refused refusal) later is = IfSome_then left is (λ text e. later text refusal e)
+later_refused first refused left ImageFault later is = absurd is
+later_refused first refused left SourceFault later is = tt
+later_refused first refused left OutFault later is = absurd is
+later_refused first refused left OutOfMemory later is = tt
+
 pub unready_text : (set : Wide) (end : Option ℕ) (names : ℕ) (attached : List Image) (left : Option (List ℕ)) (stop : Stop) → images_refusal set end names attached ≡ None → IsUnrescued names left stop → IsUnready set end names attached left stop
-unready_text set end names attached left (Refused refusal) none is =
-    IfSome_then left is (λ text e. by_text set end text names attached refusal none e)
-unready_text set end names attached left ImageFault none is = absurd is
-unready_text set end names attached left SourceFault none is = tt
-unready_text set end names attached left OutFault none is = absurd is
-unready_text set end names attached left OutOfMemory none is = tt
+unready_text set end names attached left stop none is =
+    later_refused (text_refusal names) (λ text. salvage_refusal set end text names attached) left stop (λ text refusal e. by_text set end text names attached refusal none e) is
 
 pub unready_set : (set : Wide) (end : Option ℕ) (names last : ℕ) (attached : List Image) (left : Option (List ℕ)) (rescue : List Section) (fault : Option WideFault) → images_refusal set end names attached ≡ None → IfSome left (Reads names rescue) → last ≡ end_of end attached → wide_fault set names last ≡ fault →
     IfSome left (λ text. salvage_refusal set end text names attached ≡ option_map rule_refusal fault)

@@ -79,12 +79,16 @@ salvage_job set lost end = record {
   MayRead = λ said given cut before after. after ≤ before + salvage_reads set lost end given.attached (rescue_sections given.names said);
 }
 
--- why a source gives no rescue of so many images: its text is refused, the source failed, or memory ran out
+-- why work on the text that a source has left does not begin: the text is refused so, the source failed, or memory ran out
+abbrev pub CannotBegin : (List ℕ → Option Refusal) → Option (List ℕ) → Stop → Type 0
+CannotBegin refused left (Refused refusal) = IfSome left (λ text. refused text ≡ Some refusal)
+CannotBegin refused left SourceFault = Unit {0}
+CannotBegin refused left OutOfMemory = Unit {0}
+CannotBegin refused left _ = ⊥
+
+-- why a source gives no rescue of so many images
 abbrev pub IsUnrescued : ℕ → Option (List ℕ) → Stop → Type 0
-IsUnrescued names left (Refused refusal) = IfSome left (λ text. text_refusal names text ≡ Some refusal)
-IsUnrescued names left SourceFault = Unit {0}
-IsUnrescued names left OutOfMemory = Unit {0}
-IsUnrescued names left _ = ⊥
+IsUnrescued names = CannotBegin (text_refusal names)
 
 -- why a text gives none
 abbrev pub IsUnreadable : ℕ → List ℕ → Stop → Type 0
@@ -102,7 +106,4 @@ pub record IsReady (set : Wide) (end : Option ℕ) (names : ℕ) (attached : Lis
 
 -- why the work does not begin
 abbrev pub IsUnready : Wide → Option ℕ → ℕ → List Image → Option (List ℕ) → Stop → Type 0
-IsUnready set end names attached left (Refused refusal) = IfSome left (λ text. salvage_refusal set end text names attached ≡ Some refusal)
-IsUnready set end names attached left SourceFault = Unit {0}
-IsUnready set end names attached left OutOfMemory = Unit {0}
-IsUnready set end names attached left _ = ⊥
+IsUnready set end names attached = CannotBegin (λ text. salvage_refusal set end text names attached)

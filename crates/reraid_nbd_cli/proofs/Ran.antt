@@ -1,12 +1,12 @@
 -- A run, by what was shown once the images were attached.
-use Rattle.std.proofs.Common.{◌≡◌, ℕ, ◌≤◌, ◌<◌, ◌^◌, min, List, [], ◌∷◌, length, All, Option, Result, Ok, Err, IfSome, IsErrOf, ◌⊎◌, inl, inr, refl, sym, ap, ◌∙◌, subst, arith}
+use Rattle.std.proofs.Common.{◌≡◌, ℕ, ◌≤◌, ◌<◌, ◌^◌, min, List, [], ◌∷◌, length, ◌++◌, All, Option, Result, Ok, Err, IfSome, IsErrOf, ◌⊎◌, inl, inr, refl, sym, ap, ◌∙◌, subst, arith}
 use Rattle.std.proofs.lemmas.List.Elements.{All-cons, All-nil}
 use Rattle.block_device.specs.Reading.{Asked, Counts, counts_of}
 use Rattle.command_words.specs.declared.command.Command.{Command}
 use Rattle.nbd_server.specs.Served.{Serves}
 use Rattle.nbd_server.specs.Turns.{wire}
 use Rattle.nbd_text.specs.Dialogue.{dialogue}
-use Rattle.outside.specs.Attached.{AreImagesOf}
+use Rattle.outside.specs.Attached.{AreImagesOf, AttachesSome}
 use Rattle.outside.specs.Causes.{HasCause, Rose}
 use Rattle.outside.specs.Seen.{Image, Seen, World}
 use Rattle.outside.specs.Streams.{AppendsFront, Puts, Stream}
@@ -15,7 +15,7 @@ use Rattle.std.specs.Io.KnownBytes.{Appends}
 use Rattle.run_ends.specs.Jobs.{named}
 use Rattle.run_ends.specs.declared.stop.Refusal.{Refusal}
 use Rattle.run_ends.specs.declared.stop.Refusal.TheVariants.{Word}
-use Rattle.reraid_nbd_cli.specs.Runs.{Ends, HasImages, Runs, Shows, cost as cost_of, costing, place, refusal, sectors, volume}
+use Rattle.reraid_nbd_cli.specs.Runs.{AreImages, Ends, HasImages, Runs, Shows, cost as cost_of, costing, place, refusal, sectors, volume}
 use Rattle.reraid_nbd_cli.specs.declared.ends.NbdEnd.{NbdEnd}
 use Rattle.reraid_nbd_cli.specs.declared.ends.NbdEnd.TheVariants.{Refused, ImageFault, MapsFault, Long, Stopped}
 
@@ -94,6 +94,12 @@ images_small world names [] are = All-nil (λ (image : Image). image.sectors < 2
 images_small world [] (image ∷ images) are = absurd are
 images_small world (name ∷ names) (image ∷ images) are =
     All-cons (λ (one : Image). one.sectors < 2 ^ 55) image images are.0.small (images_small world names images are.1)
+
+-- all are attached
+pub are_images : (names : List (List ℕ)) (seen new : Seen) → seen.attached ≡ [] → AttachesSome seen new names → length new.attached ≡ min (length names) 65536 → AreImages (length names) new.attached
+are_images names seen new fresh some all =
+    let own : new.attached ≡ some.attached.0 = some.attached.2 ∙ ap (λ (images : List Image). images ++ some.attached.0) fresh in
+    record { many = all; small = subst (λ (images : List Image). All (λ image. image.sectors < 2 ^ 55) images) (sym own) (images_small seen.world names some.attached.0 some.attached.1) }
 
 -- what the notes gained by one put
 pub noted : (old new : Stream) (r : Result (Unit {0}) Failed) (put line : List ℕ) → put ≡ line → Puts old.known new.known r put → HasCause old.faults new.faults r → Appends old.known new.known line ⊎ (AppendsFront old.known new.known line × Rose old.faults new.faults)

@@ -2,10 +2,10 @@
 ghost use Rattle.std.specs.Prelude.{◌≡◌, ◌<◌, ◌^◌, ◌⊎◌, [], All, IsTrue, List, Ok, Result, Some, length, ℕ};
 ghost use Rattle.outside.specs.Attached.{AreImagesOf};
 ghost use Rattle.run_ends.specs.Jobs.{named, stream};
-ghost use Rattle.command_words.specs.Commands.{IsWithin, names_after};
+ghost use Rattle.command_words.specs.Commands.{names_after};
 ghost use Rattle.command_words.specs.declared.command.Command.{Command as CommandOf};
-ghost use Rattle.reraid_nbd_cli.specs.Mapped.{IsUnasked, RunsMapped, RunsWords, ShowsMapped, damaged_of};
-ghost use Rattle.reraid_nbd_cli.specs.Runs.{AreImages, Runs, Shows, cost, place_of, refusal, sectors, volume};
+ghost use Rattle.reraid_nbd_cli.specs.Mapped.{IsUnasked, RunsMapped, RunsWords};
+ghost use Rattle.reraid_nbd_cli.specs.Runs.{Runs, place_of};
 ghost use Rattle.reraid_nbd_cli.specs.Words.{AreNamed, Asks, AsksDamaged, PutsVolume, maps_at, without};
 
 use crate::asking::{maps_place, read_asked, read_damaged, words_without};
@@ -66,7 +66,15 @@ fn run_volume<S: Source, I: Images, K: Sink>(
         Ok(command) => {
             let names = names_of(&command, words);
             match attach_front(images, names) {
-                Ok(()) => show(alloc, &command, images, names.len(), source, out),
+                Ok(()) => match &command {
+                    Command::Write { set, end, .. } => {
+                        show_set(alloc, images, names.len(), set, *end, source, out)
+                    }
+                    Command::MirrorWrite { set, end, .. } => {
+                        show_mirror(alloc, images, names.len(), set, *end, source, out)
+                    }
+                    _ => unreachable!(),
+                },
                 Err(_) => Err(NbdEnd::ImageFault),
             }
         }
@@ -81,34 +89,6 @@ fn names_of<'a>(command: &Command, words: &'a [Word]) -> &'a [Word]
 {
     match command {
         Command::Write { names, .. } | Command::MirrorWrite { names, .. } => &words[names - 1..],
-        _ => unreachable!(),
-    }
-}
-
-/// Serves the volume of a command over the attached images, of which `names` are named.
-fn show<S: Source, I: Images, K: Sink>(
-    alloc: Global,
-    command: &Command,
-    images: &mut I,
-    names: usize,
-    source: &mut S,
-    out: &mut K,
-) -> Result<(), NbdEnd>
-    requires given { AreImages names (I.seen images.old).attached }
-    requires volume { PutsVolume command.now }
-    requires within { IsWithin command.now }
-    ensures { Shows (refusal (Ok command.now) (named names (I.seen images.old).attached)) (sectors (Ok command.now) (named names (I.seen images.old).attached))
-        (volume (Ok command.now) (named names (I.seen images.old).attached)) (cost (Ok command.now))
-        (place_of I.seen S.left S.faults K.gained K.faults images.old source.old out.old)
-        (place_of I.seen S.left S.faults K.gained K.faults images.new source.new out.new) result }
-{
-    match command {
-        Command::Write { set, end, .. } => {
-            show_set(alloc, images, names, set, *end, source, out)
-        }
-        Command::MirrorWrite { set, end, .. } => {
-            show_mirror(alloc, images, names, set, *end, source, out)
-        }
         _ => unreachable!(),
     }
 }
@@ -166,38 +146,17 @@ fn run_damaged<M: Source, S: Source, I: Images, K: Sink>(
         Ok(command) => {
             let names = names_of(&command, others);
             match attach_front(images, names) {
-                Ok(()) => show_mapped(alloc, &command, images, names.len(), maps, source, out),
+                Ok(()) => match &command {
+                    Command::Write { set, end, .. } => {
+                        show_damaged(alloc, images, names.len(), set, *end, maps, source, out)
+                    }
+                    Command::MirrorWrite { set, end, .. } => {
+                        show_mended(alloc, images, names.len(), set, *end, maps, source, out)
+                    }
+                    _ => unreachable!(),
+                },
                 Err(_) => Err(NbdEnd::ImageFault),
             }
         }
-    }
-}
-
-/// Serves the damaged volume of a command over the attached images, of which `names` are named.
-fn show_mapped<M: Source, S: Source, I: Images, K: Sink>(
-    alloc: Global,
-    command: &Command,
-    images: &mut I,
-    names: usize,
-    maps: &mut M,
-    source: &mut S,
-    out: &mut K,
-) -> Result<(), NbdEnd>
-    requires given { AreImages names (I.seen images.old).attached }
-    requires volume { PutsVolume command.now }
-    requires within { IsWithin command.now }
-    ensures { ShowsMapped (damaged_of command.now (named names (I.seen images.old).attached))
-        (place_of I.seen S.left S.faults K.gained K.faults images.old source.old out.old)
-        (place_of I.seen S.left S.faults K.gained K.faults images.new source.new out.new)
-        (stream (M.left maps.old) (M.faults maps.old)) (stream (M.left maps.new) (M.faults maps.new)) result }
-{
-    match command {
-        Command::Write { set, end, .. } => {
-            show_damaged(alloc, images, names, set, *end, maps, source, out)
-        }
-        Command::MirrorWrite { set, end, .. } => {
-            show_mended(alloc, images, names, set, *end, maps, source, out)
-        }
-        _ => unreachable!(),
     }
 }

@@ -34,7 +34,7 @@ pub struct Request {
 
 /// The number in the two bytes from `at` on.
 #[tactic(auto, unfolding(crate::specs::Fields::u16_at))]
-pub fn u16_at(at: usize, bytes: &[u8]) -> u16
+pub(crate) fn u16_at(at: usize, bytes: &[u8]) -> u16
     requires { at + 2 ≤ length bytes.now }
     ensures { result ≡ u16_at at bytes.now }
 {

@@ -13,7 +13,7 @@ pub mod numbers;
 mod phase;
 mod replies;
 
-pub use heads::{OptionHead, Request, u16_at, u32_at};
+pub use heads::{OptionHead, Request, u32_at};
 pub use laws::numbers_are_the_protocols;
 pub use phase::Phase;
 pub use replies::{

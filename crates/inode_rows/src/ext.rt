@@ -16,6 +16,13 @@ const SEED: u32 = 0x688c_b585;
 // The inodes that `dumpe2fs` prints of all of them.
 const INODES: u32 = 16_384;
 
+// Puts bytes into others from a place on, as far as there is room.
+fn put(copy: &mut [u8], at: usize, bytes: &[u8]) {
+    for (to, from) in copy.iter_mut().skip(at).zip(bytes) {
+        *to = *from;
+    }
+}
+
 // A superblock of two sectors, and a sector of descriptors from a byte on.
 fn copy_of(
     first: &[u8; 512],
@@ -24,11 +31,9 @@ fn copy_of(
     from: usize,
 ) -> [u8; COPY_BYTES] {
     let mut copy = [0; COPY_BYTES];
-    copy[..512].copy_from_slice(first);
-    copy[512..1024].copy_from_slice(second);
-    for (to, byte) in copy.iter_mut().skip(from).zip(descriptors) {
-        *to = *byte;
-    }
+    put(&mut copy, 0, first);
+    put(&mut copy, 512, second);
+    put(&mut copy, from, descriptors);
     copy
 }
 

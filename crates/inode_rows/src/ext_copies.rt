@@ -290,14 +290,20 @@ fn halves(first: &[u8; 512], second: &[u8; 512]) -> [u8; 512] {
     both
 }
 
+// The sector with its halves changed over.
+fn changed_over(sector: &[u8; 512]) -> [u8; 512] {
+    let mut other = [0; 512];
+    other[..256].copy_from_slice(&sector[256..]);
+    other[256..].copy_from_slice(&sector[..256]);
+    other
+}
+
 // The inodes of a sector changed over, and with one of another file system, of none, or with a byte turned.
 #[test]
 fn no_pairs(rt: HostRuntime) {
     let copy = copy_of(SMALL_COPY);
     let pair = sector_of(SMALL_PAIR);
-    let mut over = [0; 512];
-    over[..256].copy_from_slice(&pair[256..]);
-    over[256..].copy_from_slice(&pair[..256]);
+    let over = changed_over(&pair);
     assert!(rt; told(&copy, &pair) == Some((31, 25)) && told(&copy, &over).is_none());
     assert!(rt; told(&copy, &halves(&pair, &sector_of(SEEDED_PAIR))).is_none());
     assert!(rt; told(&copy, &halves(&pair, &[0; 512])).is_none());

@@ -5,7 +5,8 @@ use Rattle.block_device.specs.Content.{IsContent}
 use Rattle.near_mirror.specs.Copies.{near_sectors}
 use Rattle.near_mirror.specs.declared.types.NearSet.{NearSet}
 use Rattle.rescue_text.specs.declared.section.Section.{Section}
-use Rattle.volume_device.specs.Lengths.{copy_long, flat_long}
+use Rattle.near_volume.proofs.Runs.{copy_long}
+use Rattle.volume_device.specs.Lengths.{flat_long}
 use Rattle.damaged_mirror.specs.Damaged.{good_copy, mended_sector, mended_sectors, mended_volume, taken_copy}
 
 taken_long : (images : List (List ℕ)) (set : NearSet) (end v : ℕ) (copy : Option ℕ) → length (taken_copy images set end v copy) ≡ 512

@@ -9,5 +9,6 @@ pub mod Padding
 pub mod LawsShown
 pub mod Adjacent
 pub mod Steps
+pub mod ToFind
 pub mod ReadAhead
 pub mod AskedFor

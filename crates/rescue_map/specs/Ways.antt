@@ -1,5 +1,6 @@
 -- How sectors of the volume come about.
-use Rattle.std.specs.Prelude.{ℕ, ◌≡◌, ◌+◌, ◌*◌, ◌<◌, ◌≤◌, ◌%◌, true, false, List, length, slice_index}
+use Rattle.std.specs.Prelude.{ℕ, ◌≡◌, ◌+◌, ◌*◌, ◌<◌, ◌≤◌, ◌%◌, Bool, ◌&&◌, not, true, false, List, length, slice_index}
+use Rattle.std.specs.List.{count_by, range_with_len}
 use Rattle.address_map.specs.declared.map.Home.{Home}
 use Rattle.raid_params.specs.Size.{volume_sectors}
 use Rattle.raid_params.specs.declared.types.Geometry.{Geometry}
@@ -23,6 +24,14 @@ abbrev pub unsolved_of : Way → ℕ
 unsolved_of (Known home count) = 0
 unsolved_of (Found home row) = 1
 unsolved_of Lost = 0
+
+-- volume sector v is to be found by them: its home is not known, and it is not lost
+abbrev pub is_to_find : List Section → Wide → ℕ → Bool
+is_to_find sections set v = is_unknown sections set v && not (is_lost sections set v)
+
+-- how many of n volume sectors from v on are
+abbrev pub to_find : List Section → Wide → ℕ → ℕ → ℕ
+to_find sections set v n = count_by (is_to_find sections set) (range_with_len v n)
 
 -- n volume sectors from v on lie beside each other on one member, and their homes are known
 pub record IsKnownRun (sections : List Section) (set : Wide) (v n : ℕ) (home : Home) : Type 0 where

@@ -1,11 +1,11 @@
 //! Sectors of the volume where they are asked for.
-ghost use Rattle.std.specs.Prelude.{◌≡◌, ◌+◌, ◌*◌, ◌%◌, ◌/◌, ◌<◌, ◌≤◌, ℕ, IfSome, OnOk, false, true, length};
+ghost use Rattle.std.specs.Prelude.{◌≡◌, ◌+◌, ◌*◌, ◌%◌, ◌/◌, ◌<◌, ◌≤◌, ℕ, IfOk, IfSome, OnOk, false, true, length};
 ghost use Rattle.std.specs.List.{list_any, range_with_len};
 ghost use Rattle.outside.specs.Attached.{told_all};
 ghost use Rattle.raid_params.specs.Size.{volume_sectors as volume_sectors_of};
 ghost use Rattle.rescue_map.specs.Damaged.{is_lost as is_lost_of, IsDamaged, IsMendable, IsReadable};
 ghost use Rattle.rescue_map.specs.Salvaged.{reads_for_all, salvaged_sectors, AreSalvaged, KeepLengths, ReadsUpTo};
-ghost use Rattle.rescue_map.specs.Ways.{sectors_of, IsPart, IsWay};
+ghost use Rattle.rescue_map.specs.Ways.{sectors_of, to_find, IsPart, IsWay};
 
 use crate::damaged::{Damage, are_all_good};
 use crate::filling::fill_step;
@@ -107,6 +107,7 @@ pub(crate) fn read_each<I: Images>(
     requires whole { length to.old % 512 ≡ 0 }
     requires within { first + length to.old / 512 ≤ volume_sectors_of damage.now.set.now.geo.head damage.now.end }
     requires row { length row.old ≡ 512 * length damage.now.set.now.geo.slots.items }
+    ensures found { IfOk result (λ found. found ≡ to_find damage.now.rescue.now damage.now.set.now first (length to.old / 512)) }
     ensures told { OnOk result (IfSome (told_all (I.seen images.old).attached)
         (λ bytes. to.new ≡ salvaged_sectors bytes damage.now.rescue.now damage.now.set.now first (length to.old / 512))) }
     ensures row { length row.new ≡ length row.old }

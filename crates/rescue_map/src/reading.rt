@@ -1,12 +1,12 @@
 //! What is read of the images for sectors of the volume.
-ghost use Rattle.std.specs.Prelude.{if◌then◌else◌, ℕ, ◌≡◌, ◌+◌, ◌*◌, ◌^◌, ◌<◌, length, slice_index, All, IfSome, OnOk};
+ghost use Rattle.std.specs.Prelude.{if◌then◌else◌, ℕ, ◌≡◌, ◌+◌, ◌*◌, ◌^◌, ◌<◌, length, slice_index, All, IfOk, IfSome, OnOk};
 ghost use Rattle.outside.specs.Attached.{told_all};
 ghost use Rattle.std.specs.Option.{is_none};
 ghost use Rattle.member_regions.specs.Members.{held as held_of, Reaches};
 ghost use Rattle.raid_terms.specs.Parity.{member_byte};
 ghost use Rattle.rescue_map.specs.Damaged.{IsReadable};
 ghost use Rattle.rescue_map.specs.Salvaged.{reads_for_all, HasRoom, HoldCells, IsRead, KeepLengths, ReadsUpTo};
-ghost use Rattle.rescue_map.specs.Ways.{sectors_of, AreFound, IsPart, IsWay};
+ghost use Rattle.rescue_map.specs.Ways.{sectors_of, to_find, AreFound, IsPart, IsWay};
 
 use crate::damaged::Damage;
 use crate::ways::{Way, way_of};
@@ -101,6 +101,7 @@ pub(crate) fn read_block<I: Images>(
 ) -> Result<usize, Failed>
     requires set { IsReadable damage.now.set.now damage.now.end (I.seen images.old).attached }
     requires room { HasRoom damage.now.set.now damage.now.end first count block.old rows.old }
+    ensures found { IfOk result (λ found. found ≡ to_find damage.now.rescue.now damage.now.set.now first count) }
     ensures told { OnOk result (IfSome (told_all (I.seen images.old).attached)
         (λ bytes. (j : ℕ) → j < count → IsRead bytes damage.now.rescue.now damage.now.set.now first rows.new block.new j)) }
     ensures lengths { KeepLengths block.old block.new rows.old rows.new }

@@ -2,11 +2,12 @@ use Rattle.std.proofs.Common.{ℕ, ◌≡◌, ◌∙◌, ◌+◌, ◌-◌, ◌*�
 use Rattle.outside.specs.Attached.{told_all}
 use Rattle.member_regions.proofs.IfTold.{if_both, if_told}
 use Rattle.rescue_map.specs.Salvaged.{salvaged_sectors, AreSalvaged}
-use Rattle.rescue_map.specs.Ways.{sectors_of}
+use Rattle.rescue_map.specs.Ways.{sectors_of, to_find}
 use Rattle.rescue_map.proofs.Adjacent.{part_long}
 use Rattle.rescue_map.proofs.AskedFor.{salvaged_all, sectors_more}
 use Rattle.rescue_map.proofs.Blocks.{reads_blocks, reads_some}
 use Rattle.rescue_map.proofs.Passed.{damage_of, volume_short}
+use Rattle.rescue_map.proofs.ToFind.{found_on}
 use borrow.Rule.Slice.PartMut.{put_mid}
 use Rattle.rescue_map.proofs.device.read_each.Goals as goal
 
@@ -52,6 +53,7 @@ loop-j-preserved g c =
     record {
       within = omega arith;
       few = omega arith;
+      found = (let more = found_on damage.rescue.now set c.args.first j c.loop-j.found (j + c.count.result) c.way_of-way.result c.way_of-way.ensures.way (omega arith) c.loop-j.invariant.found in omega (arith, more, c.unsolved-found.ensures.found));
       long = omega arith;
       row = c.read_finished.ensures.lengths.rows ∙ c.loop-j.invariant.row;
       reads =
@@ -80,3 +82,8 @@ returns-clause-told g c =
     (λ bytes. c.loop-j.to ≡ salvaged_sectors bytes damage.rescue.now set c.args.first n)
     (λ bytes are. salvaged_all bytes damage.rescue.now set c.args.first n c.loop-j.j c.loop-j.to (omega arith) (omega (arith, c.loop-j.invariant.within)) are)
     c.loop-j.invariant.told
+
+pub returns-clause-found : goal.returns-clause-found
+returns-clause-found g c =
+    let all : c.loop-j.j ≡ length c.args.to.now / 512 = omega arith in
+    c.loop-j.invariant.found ∙ ap (λ (n : ℕ). to_find c.args.damage.now.rescue.now c.args.damage.now.set.now c.args.first n) all

@@ -3,11 +3,12 @@ use Rattle.outside.specs.Attached.{told_all}
 use Rattle.member_regions.proofs.IfTold.{if_both}
 use Rattle.row_parity.proofs.Regions.{region_inside}
 use Rattle.rescue_map.specs.Salvaged.{IsRead}
-use Rattle.rescue_map.specs.Ways.{sectors_of, AreFound}
+use Rattle.rescue_map.specs.Ways.{sectors_of, to_find, AreFound}
 use Rattle.rescue_map.proofs.Adjacent.{part_long}
 use Rattle.rescue_map.proofs.Blocks.{reads_blocks, reads_some}
 use Rattle.rescue_map.proofs.Passed.{damage_of, volume_short}
 use Rattle.rescue_map.proofs.Steps.{read_more}
+use Rattle.rescue_map.proofs.ToFind.{found_on}
 use borrow.Rule.Slice.PartMut.{put_mid}
 use Rattle.rescue_map.proofs.reading.read_block.Goals as goal
 
@@ -71,6 +72,7 @@ loop-j-preserved g c =
     record {
       within = omega arith;
       few = omega arith;
+      found = (let more = found_on damage.rescue.now set c.args.first j c.loop-j.found (j + c.count.result) c.way_of-way.result c.way_of-way.ensures.way (omega arith) c.loop-j.invariant.found in omega (arith, more, c.unsolved-found.ensures.found));
       block_long = omega arith;
       rows_long = omega arith;
       reads =
@@ -87,3 +89,8 @@ loop-j-preserved g c =
           c.loop-j.invariant.told
           (rw (← c.loop-j.invariant.reads.attached) now);
     }
+
+pub returns-clause-found : goal.returns-clause-found
+returns-clause-found g c =
+    let all : c.loop-j.j ≡ c.args.count = omega arith in
+    c.loop-j.invariant.found ∙ ap (λ (n : ℕ). to_find c.args.damage.now.rescue.now c.args.damage.now.set.now c.args.first n) all

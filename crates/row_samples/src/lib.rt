@@ -12,5 +12,5 @@ mod sampler;
 mod spread;
 
 pub use reading::{SampleFault, TRIES, read_rows};
-pub use sampler::{RowSampler, most_kept};
+pub use sampler::RowSampler;
 pub use spread::Spread;

@@ -19,7 +19,7 @@ use std::marker::Model;
 const MOST_KEPT: u64 = 4096;
 
 /// How many rows are kept where so many may be unsound: 64 more, and 4,096 at most.
-pub fn most_kept(badrows: u64) -> usize
+pub(crate) fn most_kept(badrows: u64) -> usize
     ensures { result ≡ most_rows_kept badrows }
 {
     badrows.min(MOST_KEPT - 64) as usize + 64

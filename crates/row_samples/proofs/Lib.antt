@@ -1,4 +1,5 @@
 pub mod Copied
 pub mod Begun
 pub mod Offered
+pub mod Few
 pub mod Ordered

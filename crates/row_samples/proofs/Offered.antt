@@ -1,12 +1,10 @@
 -- What is kept once a row was offered.
-use Rattle.std.proofs.Common.{ℕ, ◌≡◌, ◌<◌, ◌≤◌, ◌+◌, ◌*◌, ◌/◌, ◌%◌, Bool, true, false, cond, List, [], ◌∷◌, ◌++◌, length, refl, sym, ap, subst, ◌∙◌, arith, inl, inr}
+use Rattle.std.proofs.Common.{ℕ, ◌≡◌, ◌+◌, Bool, true, false, cond, List, length, refl, sym, ap, subst, ◌∙◌, arith, inl, inr}
 use Rattle.std.proofs.lemmas.Bool.{cases_Bool}
 use Rattle.member_regions.specs.Regions.{Room}
 use Rattle.relation_prefix.specs.Laws.{AreSectorsAt}
 use Rattle.relation_prefix.specs.Sampled.{AreBelow}
-use Rattle.relation_prefix.specs.Ties.{AreTiesOf}
 use Rattle.relation_prefix.specs.declared.row_ties.RowTies.{RowTies}
-use Rattle.relation_prefix.specs.declared.sampled.SampledRow.{SampledRow}
 use Rattle.relation_prefix.proofs.Keeping.{below_more, below_push, kept_rows}
 use Rattle.row_relations.specs.Tables.{IsTable, Table}
 use Rattle.row_samples.specs.Rows.{AreImageRows, HoldSector}
@@ -14,7 +12,7 @@ use Rattle.row_samples.specs.Spreads.{is_wanted, kept_row, left_out, offered, pa
 use Rattle.row_samples.specs.declared.spread.Spread.{Spread}
 
 -- what holds whatever was chosen
-by_choice : (P : Spread → Type 0) (b : Bool) (x y : Spread) → P x → P y → P (cond b x y)
+pub by_choice : (P : Spread → Type 0) (b : Bool) (x y : Spread) → P x → P y → P (cond b x y)
 by_choice P true x y hx hy = hx
 by_choice P false x y hx hy = hy
 

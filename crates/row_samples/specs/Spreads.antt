@@ -1,11 +1,11 @@
 -- Rows that are kept of an offset, spread over it. They serve all chunks and delays, and so go by no turn: a turn is as many rows of
 -- chunks as the delay says, in which parity stays. The parts lie side by side, so that long turns have rows among those that are
 -- wanted, and the place within a part differs from part to part, so that short ones do.
-use Rattle.std.specs.Prelude.{ℕ, ◌≡◌, ◌+◌, ◌*◌, ◌/◌, ◌%◌, ◌⊎◌, ◌<◌, min, max, Bool, true, false, not, ◌&&◌, ◌||◌, nat_le, nat_lt, if◌then◌else◌, List, [], length, slice_index_or}
+use Rattle.std.specs.Prelude.{ℕ, ◌≡◌, ◌+◌, ◌*◌, ◌/◌, ◌%◌, ◌⊎◌, ◌<◌, ◌≤◌, max, Bool, true, false, not, ◌&&◌, ◌||◌, nat_le, nat_lt, if◌then◌else◌, List, [], length}
 use Rattle.member_regions.specs.Regions.{Room}
 use Rattle.member_regions.specs.ImageSums.{room_byte}
 use Rattle.relation_prefix.specs.Sampled.{with_row, AreBelow, KeptRows}
-use Rattle.relation_prefix.specs.Ties.{dependents, is_blank, tells_much, AreTiesOf, FitTies}
+use Rattle.relation_prefix.specs.Ties.{dependents, is_blank, tells_much, AreTiesOf}
 use Rattle.relation_prefix.specs.declared.condition.TheConstants.{MOST_TIES}
 use Rattle.relation_prefix.specs.declared.row_ties.RowTies.{RowTies}
 use Rattle.row_relations.specs.Rows.{byte_of, AreBytes}
@@ -97,6 +97,16 @@ pub record HasNone (images : ℕ) (sampling : Sampling) : Type 0 where
   pub telling : sampling.telling.kept.list ≡ []
   pub others_images : sampling.others.kept.images ≡ images
   pub others : sampling.others.kept.list ≡ []
+
+-- there is room for so many rows, and no more are kept
+pub record HasFew (most : ℕ) (spread : Spread) : Type 0 where
+  pub room : spread.kept.most ≡ most
+  pub few : length spread.kept.list ≤ most
+
+-- so it is with both since this sampling
+pub record HaveFew (begun sampling : Sampling) : Type 0 where
+  pub telling : HasFew begun.telling.kept.most sampling.telling
+  pub others : HasFew begun.others.kept.most sampling.others
 
 -- all are rows of `count` images, counted from an offset on
 pub record AreSampled (images : List (List ℕ)) (count offset : ℕ) (sampling : Sampling) : Type 0 where

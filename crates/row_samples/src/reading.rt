@@ -51,6 +51,7 @@ pub fn read_rows<I: Images>(
     ensures images { IfOk result (λ kept. kept.images ≡ length scope.now.lengths.items) }
     ensures told { IfOk result (λ kept. IfSome (told_all (I.seen images.old).attached)
         (λ bytes. AreImageRows bytes (length scope.now.lengths.items) offset kept.list)) }
+    ensures few { IfOk result (λ kept. length kept.list ≤ most_rows_kept scope.now.limits.badrows) }
     ensures reads { OnlyReads (I.seen images.old) (I.seen images.new)
         (length scope.now.lengths.items * min (TRIES * most_rows_kept scope.now.limits.badrows) rows) }
     ensures ends { IfErr result (EndsSamples (I.seen images.old) (I.seen images.new)) }
@@ -93,10 +94,14 @@ fn fill<I: Images>(
     requires few { tries ≤ 32768 }
     requires room { IsRoomFor (length scope.now.lengths.items) 1 regions.old }
     requires none { HasNone (length scope.now.lengths.items) sampler.old }
+    requires telling_room { sampler.old.telling.kept.most ≡ most_rows_kept scope.now.limits.badrows }
+    requires others_room { sampler.old.others.kept.most ≡ most_rows_kept scope.now.limits.badrows }
     ensures telling_images { sampler.new.telling.kept.images ≡ length scope.now.lengths.items }
     ensures others_images { sampler.new.others.kept.images ≡ length scope.now.lengths.items }
     ensures told { OnOk result (IfSome (told_all (I.seen images.old).attached)
         (λ bytes. AreSampled bytes (length scope.now.lengths.items) offset sampler.new)) }
+    ensures telling_few { length sampler.new.telling.kept.list ≤ most_rows_kept scope.now.limits.badrows }
+    ensures others_few { length sampler.new.others.kept.list ≤ most_rows_kept scope.now.limits.badrows }
     ensures reads { OnlyReads (I.seen images.old) (I.seen images.new) (length scope.now.lengths.items * tries) }
     ensures cause { HasCause (I.seen images.old).faults (I.seen images.new).faults result }
 {

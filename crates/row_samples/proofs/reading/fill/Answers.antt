@@ -1,12 +1,13 @@
-use Rattle.std.proofs.Common.{◌≡◌, ◌<◌, ◌≤◌, ◌+◌, ◌*◌, ◌/◌, ℕ, List, IfSome, length, arith, rules, ap, refl, subst, sym, ◌∙◌}
+use Rattle.std.proofs.Common.{◌≡◌, ◌≤◌, ◌+◌, ◌*◌, ◌/◌, List, IfSome, length, arith, rules, ap, refl, subst, sym, ◌∙◌}
 use Rattle.outside.proofs.Reading.{reads_none, reads_up}
 use Rattle.outside.specs.Attached.{told_all}
 use Rattle.outside.specs.Seen.{Image}
 use Rattle.member_regions.proofs.IfTold.{if_both}
 use Rattle.member_regions.specs.Regions.{HoldRead}
 use Rattle.search_scope.specs.Scopes.{AgreeWith}
-use Rattle.row_samples.specs.Spreads.{AreSampled, LieBelow, Sampling}
+use Rattle.row_samples.specs.Spreads.{AreSampled, HaveFew, LieBelow, Sampling}
 use Rattle.row_samples.proofs.Begun.{far_first, far_later, lie_later, AreFar}
+use Rattle.row_samples.proofs.Few.{few_first, few_later}
 use Rattle.row_samples.proofs.Offered.{offered_below, offered_images, offered_rows}
 use Rattle.row_samples.proofs.Ordered.{in_order, order_length, order_reaches, scope_near, reads_images, reads_more, reads_within, sector_held}
 use Rattle.row_samples.proofs.reading.fill.Goals.{then-wants+in_ok-read, else-wants}
@@ -15,6 +16,7 @@ use Rattle.row_samples.proofs.reading.fill.Goals as goal
 pub loop-number-init : goal.loop-number-init
 loop-number-init g c = record {
   far = far_first (g.I.Images.seen c.args.images.now).attached c.args.scope.now c.args.offset (c.args.rows / c.args.tries * 0) c.args.sampler.now c.requires.images c.requires.none;
+  few = few_first (length c.args.scope.now.lengths.items) c.args.sampler.now c.requires.none;
   faults = refl;
   reads = reads_up (g.I.Images.seen c.args.images.now) (g.I.Images.seen c.args.images.now) (reads_none (g.I.Images.seen c.args.images.now)) (omega arith);
   room = c.requires.room;
@@ -67,6 +69,7 @@ loop-number-preserved g c =
     let next : part * (c.loop-number.number + 1) ≡ part * c.loop-number.number + part = grind arith in
     let F : Sampling → Type 0 = λ sampler. AreFar told n c.args.offset (part * (c.loop-number.number + 1)) sampler in
     let was = c.loop-number.invariant.far in
+    let Few : Sampling → Type 0 = HaveFew c.args.sampler.now in
     elim c.if-wants.branch [
       | then-wants+in_ok-read w ↦
           (let slots = w.deref.result.now in
@@ -94,6 +97,7 @@ loop-number-preserved g c =
           } in
           record {
             far = subst F (sym w.sampler-is) far;
+            few = subst Few (sym w.sampler-is) (few_later room 0 row c.args.sampler.now old new offers c.loop-number.invariant.few);
             faults = rw w.images-is (search rules);
             reads = rw w.images-is (reads_more (g.I.Images.seen c.args.images.now) (g.I.Images.seen c.loop-number.images) (g.I.Images.seen w.read.new.images) n c.loop-number.number 1 c.loop-number.invariant.reads
                 (reads_images (g.I.Images.seen c.loop-number.images) (g.I.Images.seen w.read.new.images) slots n 1 ordered w.read.ensures.reads));
@@ -108,6 +112,7 @@ loop-number-preserved g c =
           let more : n * (c.loop-number.number + 1) ≡ n * c.loop-number.number + n = grind arith in
           record {
             far = subst F (sym w.sampler-is) far;
+            few = subst Few (sym w.sampler-is) c.loop-number.invariant.few;
             faults = rw w.images-is c.loop-number.invariant.faults;
             reads = rw w.images-is (reads_up (g.I.Images.seen c.args.images.now) (g.I.Images.seen c.loop-number.images) c.loop-number.invariant.reads (omega arith));
             room = rw w.regions-is c.loop-number.invariant.room;

@@ -1,9 +1,9 @@
-use Rattle.std.proofs.Common.{◌≡◌, ◌<◌, ◌+◌, ◌*◌, ◌++◌, ℕ, List, true, false, drop, length, take, arith, ap, subst, sym, ◌∙◌}
+use Rattle.std.proofs.Common.{◌≡◌, ◌<◌, ◌*◌, ℕ, List, length, arith, ap, subst, sym, ◌∙◌}
 use Rattle.std.proofs.lemmas.Bool.{false≢true}
 use Rattle.row_relations.specs.Tables.{IsTable}
 use Rattle.row_samples.proofs.Copied.{written_whole}
 use Rattle.row_samples.proofs.Offered.{takes_same}
-use Rattle.row_samples.specs.Spreads.{AreSectorsOf, OffersTable, Sampling, TakesTable}
+use Rattle.row_samples.specs.Spreads.{AreSectorsOf, OffersTable, Sampling}
 use Rattle.row_samples.proofs.sampler.RowSampler.offer.Goals as goal
 
 pub invariant_of-self : goal.invariant_of-self

@@ -21,7 +21,7 @@ use Rattle.run_ends.specs.Source.{TakesFew}
 use Rattle.run_ends.specs.declared.stop.Refusal.{Refusal}
 use Rattle.run_ends.specs.declared.stop.Stop.{Stop}
 use Rattle.run_ends.specs.declared.stop.Stop.TheVariants.{Refused as RefusedStop, ImageFault as ImageStop, SourceFault as SourceStop, OutFault as OutStop, OutOfMemory as MemoryStop}
-use Rattle.salvage_job.specs.Salvaging.{IsReady, IsUnready, salvage_output, salvage_refusal}
+use Rattle.salvage_job.specs.Salvaging.{IsReady, salvage_output, salvage_refusal}
 use Rattle.salvage_job.specs.declared.salvaging.Ready.{Ready}
 use Rattle.set_jobs.specs.Writing.{told_for, volume_reads}
 use Rattle.reraid_nbd_cli.specs.Ends.{end_of_stop}
@@ -105,14 +105,6 @@ none_of (Some refusal) none = absurd (none refusal refl)
 
 same_refusal : (why refusal : Refusal) → ◌≡◌ {A = Result Ready Stop} (Err (RefusedStop why)) (Err (RefusedStop refusal)) → ◌≡◌ {A = Result (Unit {0}) NbdEnd} (Err (Refused why)) (Err (Refused refusal))
 same_refusal why refusal e = let same : why ≡ refusal = cc in ap (λ (w : Refusal). Err (Refused w)) same
-
--- why the work for a set does not begin
-pub unready_set : (set : Wide) (end : Option ℕ) (names : ℕ) (attached : List Image) (left : Option (List ℕ)) (stop : Stop) → IsUnready set end names attached left stop → CannotBegin (damaged_set set end (named names attached)) left stop
-unready_set set end names attached left (RefusedStop why) is = is
-unready_set set end names attached left SourceStop is = is
-unready_set set end names attached left MemoryStop is = is
-unready_set set end names attached left ImageStop is = absurd is
-unready_set set end names attached left OutStop is = absurd is
 
 pub unready_shown : (damaged : DamagedVolume) (old : Place) (left gone : Stream) (stop : Stop) → CannotBegin damaged left.known stop →
     EndsEarly {T = Ready} damaged.early left gone (Err stop) → TakesFew 4194304 left.known gone.known → Raises {T = Ready} SourceStop left.faults gone.faults (Err stop) →

@@ -20,8 +20,8 @@ use Rattle.run_ends.specs.declared.agreement.Disagreement.{Disagreement}
 use Rattle.run_ends.specs.declared.stop.Refusal.{Refusal}
 use Rattle.run_ends.specs.declared.stop.Refusal.TheVariants.{Images}
 use Rattle.run_ends.specs.declared.stop.Stop.{Stop}
-use Rattle.run_ends.specs.declared.stop.Stop.TheVariants.{Refused as RefusedStop, ImageFault as ImageStop, SourceFault as SourceStop, OutFault as OutStop, OutOfMemory as MemoryStop}
-use Rattle.salvage_job.proofs.Readied.{Reads, read_text}
+use Rattle.run_ends.specs.declared.stop.Stop.TheVariants.{Refused as RefusedStop}
+use Rattle.salvage_job.proofs.Readied.{Reads, later_refused, read_text}
 use Rattle.salvage_job.specs.Salvaging.{IsUnrescued, text_refusal}
 use Rattle.salvage_job.specs.declared.salvaging.Ready.{Ready}
 use Rattle.set_jobs.proofs.SetRefusals.{first_alone}
@@ -53,11 +53,7 @@ unready_limits set end given None refusal e = tt
 unready_limits set end given (Some text) refusal e = by_limits set end given text refusal e
 
 pub unready_text : (set : NearSet) (end : Option ℕ) (given : Named) (left : Option (List ℕ)) (stop : Stop) → limits_refusal end given ≡ None → IsUnrescued given.names left stop → CannotBegin (damaged_mirror set end given) left stop
-unready_text set end given left (RefusedStop refusal) none is = IfSome_then left is (λ text e. by_text set end given text refusal none e)
-unready_text set end given left SourceStop none is = tt
-unready_text set end given left MemoryStop none is = tt
-unready_text set end given left ImageStop none is = absurd is
-unready_text set end given left OutStop none is = absurd is
+unready_text set end given left stop none is = later_refused (text_refusal given.names) (mended_refusal set end given) left stop (λ text refusal e. by_text set end given text refusal none e) is
 
 pub unready_mirror : (set : NearSet) (end : Option ℕ) (given : Named) (left : Option (List ℕ)) (rescue : List Section) (refused : Option Refusal) → limits_refusal end given ≡ None → IfSome left (Reads given.names rescue) →
     mirror_refusal set end given.names given.attached ≡ refused → IfSome left (λ text. mended_refusal set end given text ≡ refused)

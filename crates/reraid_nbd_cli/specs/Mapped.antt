@@ -29,8 +29,7 @@ use Rattle.run_ends.specs.Stops.{first_of}
 use Rattle.run_ends.specs.declared.stop.Refusal.{Refusal}
 use Rattle.run_ends.specs.declared.stop.Refusal.TheVariants.{Images, Word}
 use Rattle.run_ends.specs.declared.stop.Stop.{Stop}
-use Rattle.run_ends.specs.declared.stop.Stop.TheVariants.{Refused as RefusedStop, SourceFault as SourceStop, OutOfMemory as MemoryStop}
-use Rattle.salvage_job.specs.Salvaging.{salvage_output, salvage_refusal, text_refusal}
+use Rattle.salvage_job.specs.Salvaging.{CannotBegin as CannotBeginBy, salvage_output, salvage_refusal, text_refusal}
 use Rattle.salvage_job.specs.declared.salvaging.Ready.{Ready}
 use Rattle.set_jobs.specs.Mapping.{images_refusal}
 use Rattle.set_jobs.specs.Writing.{volume_reads}
@@ -89,10 +88,7 @@ damaged_mirror set end given = record {
 
 -- why the work for a damaged volume does not begin, where the maps have so much left
 abbrev pub CannotBegin : DamagedVolume → Option (List ℕ) → Stop → Type 0
-CannotBegin damaged left (RefusedStop refusal) = IfSome left (λ text. damaged.refused text ≡ Some refusal)
-CannotBegin damaged left SourceStop = Unit {0}
-CannotBegin damaged left MemoryStop = Unit {0}
-CannotBegin damaged left _ = ⊥
+CannotBegin damaged = CannotBeginBy damaged.refused
 
 -- nothing of a mirror is refused: the end of the members, and what was read of the images
 pub record IsMendable (set : NearSet) (end : Option ℕ) (given : Named) (left : Option (List ℕ)) (ready : Ready) : Type 0 where

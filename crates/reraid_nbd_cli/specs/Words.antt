@@ -51,11 +51,6 @@ abbrev pub AsksDamaged : ℕ → List (List ℕ) → Result Command ℕ → Type
 AsksDamaged at words (Ok command) = Asks (without at words) (Ok command)
 AsksDamaged at words (Err number) = (other : ℕ) × Asks (without at words) (Err other) × (number ≡ as_typed at other)
 
--- the command is `write`
-abbrev pub PutsSet : Command → Type 0
-PutsSet (WriteCommand set end names) = Unit {0}
-PutsSet _ = ⊥
-
 -- the command puts a volume
 abbrev pub PutsVolume : Command → Type 0
 PutsVolume (WriteCommand set end names) = Unit {0}

@@ -10,7 +10,7 @@ returns-in-Ok-clause-volume c = write_puts c.args.words.now c.in-Ok.command c.in
 
 pub returns-in-Ok-clause-named : goal.returns-in-Ok-clause-named
 returns-in-Ok-clause-named c =
-    named_behind (codes "write") c.args.words.now c.in-Ok.command refl (write_puts c.args.words.now c.in-Ok.command c.in-Ok.ensures.reads) c.in-Ok.ensures.names
+    named_behind (codes "write") c.args.words.now c.in-Ok.command refl c.in-Ok.ensures.names
 
 pub returns-in-Ok-read_words_after-clause-asks : goal.returns-in-Ok-read_words_after-clause-asks
 returns-in-Ok-read_words_after-clause-asks c = inr (c.in-Err.number, c.in-Err.ensures.reads, c.in-Ok-read_words_after.ensures.reads)
@@ -20,7 +20,7 @@ returns-in-Ok-read_words_after-clause-volume c = mirrorwrite_puts c.args.words.n
 
 pub returns-in-Ok-read_words_after-clause-named : goal.returns-in-Ok-read_words_after-clause-named
 returns-in-Ok-read_words_after-clause-named c =
-    named_behind (codes "mirrorwrite") c.args.words.now c.in-Ok-read_words_after.command refl (mirrorwrite_puts c.args.words.now c.in-Ok-read_words_after.command c.in-Ok-read_words_after.ensures.reads) c.in-Ok-read_words_after.ensures.names
+    named_behind (codes "mirrorwrite") c.args.words.now c.in-Ok-read_words_after.command refl c.in-Ok-read_words_after.ensures.names
 
 pub returns-in-Err-read_words_after-clause-asks : goal.returns-in-Err-read_words_after-clause-asks
 returns-in-Err-read_words_after-clause-asks c = (c.in-Err.number, c.in-Err-read_words_after.other, c.in-Err.ensures.reads, c.in-Err-read_words_after.ensures.reads, ap (λ (n : ℕ). n - 1) c.max.ensures)

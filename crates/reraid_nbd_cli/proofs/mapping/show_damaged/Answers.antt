@@ -4,7 +4,7 @@ use Rattle.raid_params.specs.Size.{volume_sectors}
 use Rattle.set_jobs.specs.Writing.{told_for}
 use Rattle.run_ends.specs.Jobs.{named}
 use Rattle.reraid_nbd_cli.specs.Mapped.{damaged_set}
-use Rattle.reraid_nbd_cli.proofs.Mapped.{by_set, ready_shown, unready_set, unready_shown}
+use Rattle.reraid_nbd_cli.proofs.Mapped.{by_set, ready_shown, unready_shown}
 use Rattle.reraid_nbd_cli.proofs.mapping.show_damaged.Goals as goal
 
 pub returns-in-Ok : goal.returns-in-Ok
@@ -19,4 +19,4 @@ returns-in-Ok g c =
 pub returns-in-Err : goal.returns-in-Err
 returns-in-Err g c =
     let attached = (g.I.Images.seen c.args.images.now).attached in
-    rw c.end_of_stop.ensures (unready_shown (damaged_set c.args.set.now c.args.end (named c.args.names attached)) _ _ _ c.in-Err.stop (unready_set c.args.set.now c.args.end c.args.names attached _ c.in-Err.stop c.in-Err.ensures.unready) c.in-Err.ensures.early c.prepare.ensures.takes c.in-Err.ensures.faults)
+    rw c.end_of_stop.ensures (unready_shown (damaged_set c.args.set.now c.args.end (named c.args.names attached)) _ _ _ c.in-Err.stop c.in-Err.ensures.unready c.in-Err.ensures.early c.prepare.ensures.takes c.in-Err.ensures.faults)

@@ -1,5 +1,5 @@
 -- What the words ask for, by their two readings.
-use Rattle.std.proofs.Common.{◌≡◌, inl, inr, ℕ, zero, suc, ◌+◌, ◌-◌, ◌≤◌, List, [], ◌∷◌, length, drop, codes, Option, None, Some, IfSome, MatchOption, true, false, Bool, if◌then◌else◌, refl, sym, ap, ◌∙◌, subst, arith}
+use Rattle.std.proofs.Common.{◌≡◌, inl, inr, ℕ, zero, suc, ◌+◌, ◌-◌, ◌≤◌, List, [], ◌∷◌, length, drop, codes, Option, None, Some, IfSome, MatchOption, true, false, Bool, if◌then◌else◌, sym, ap, ◌∙◌, subst, arith}
 use Rattle.std.specs.Option.{option_map}
 use Rattle.std.specs.Str.{bytes_eq}
 use Rattle.command_words.specs.Commands.{EndFrom, EndsInNames, IsCommandLine, SaysAlone, command_of, mirror_in, names_after, names_of, number_in, set_in, verb_word}

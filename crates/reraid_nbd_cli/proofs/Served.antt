@@ -12,7 +12,6 @@ use Rattle.outside.specs.Streams.{Stream}
 use Rattle.run_ends.specs.Counts.{Raises}
 use Rattle.reraid_nbd_cli.specs.Ends.{ended}
 use Rattle.reraid_nbd_cli.specs.Runs.{Shows, costing, place}
-use Rattle.reraid_nbd_cli.specs.declared.ends.NbdEnd.{NbdEnd}
 use Rattle.reraid_nbd_cli.specs.declared.ends.NbdEnd.TheVariants.{Stopped}
 
 same_stop : (result : Result (Unit {0}) NbdStop) (fault : NbdStop) → IsErrOf (ended result) (Stopped fault) → IsErrOf result fault

@@ -26,7 +26,7 @@ use Rattle.salvage_job.specs.declared.salvaging.Ready.{Ready}
 use Rattle.set_jobs.specs.Writing.{told_for, volume_reads}
 use Rattle.reraid_nbd_cli.specs.Ends.{end_of_stop}
 use Rattle.reraid_nbd_cli.specs.Mapped.{CannotBegin, DamagedVolume, EndsByText, EndsMapped, RunsDamaged, ShowsMapped, TakesMaps, damaged_set, mapped_cost}
-use Rattle.reraid_nbd_cli.specs.Runs.{Ends, Place, Shows, place}
+use Rattle.reraid_nbd_cli.specs.Runs.{Ends, IsUntouched, Place, Shows, place}
 use Rattle.reraid_nbd_cli.specs.declared.ends.NbdEnd.{NbdEnd}
 use Rattle.reraid_nbd_cli.specs.declared.ends.NbdEnd.TheVariants.{Refused, ImageFault, MapsFault, Long, Stopped}
 use Rattle.reraid_nbd_cli.proofs.Ran.{ends_before, has_images, same_counts}
@@ -55,6 +55,10 @@ pub by_set : (set : Wide) (end : Option ℕ) (names : ℕ) (attached : List Imag
 by_set set end names attached None ready old new r is ends = tt
 by_set set end names attached (Some text) ready old new r is ends = ends_by set end names attached text ready old new r is.end_is is.allowed is.sections ends
 
+unrefused : (old new : Place) (o : Option Refusal) → o ≡ None → IfSome o (λ refusal. IsUntouched old new)
+unrefused old new None e = tt
+unrefused old new (Some refusal) e = absurd (cc)
+
 ready_ends : (damaged : DamagedVolume) (left : Option (List ℕ)) (old new : Place) (r : Result (Unit {0}) NbdEnd) →
     (IsErrOf r ImageFault → ⊥) → (IsErrOf r MapsFault → ⊥) → IfSome left (EndsByText damaged old new r) → EndsMapped damaged left old new r
 ready_ends damaged left old new (Ok done) none quiet ends = ends
@@ -63,7 +67,7 @@ ready_ends damaged left old new (Err (Long n)) none quiet ends = ends
 ready_ends damaged left old new (Err (Stopped SourceFault)) none quiet ends = ends
 ready_ends damaged left old new (Err (Stopped OutFault)) none quiet ends = ends
 ready_ends damaged left old new (Err (Stopped Malformed)) none quiet ends = ends
-ready_ends damaged left old new (Err (Stopped OutOfMemory)) none quiet ends = IfSome_then left ends (λ text served. served.serves)
+ready_ends damaged left old new (Err (Stopped OutOfMemory)) none quiet ends = IfSome_then left ends (λ text served. (unrefused old new (damaged.refused text) served.allowed, served.serves))
 ready_ends damaged left old new (Err ImageFault) none quiet ends = absurd (none refl)
 ready_ends damaged left old new (Err MapsFault) none quiet ends = absurd (quiet refl)
 
@@ -132,7 +136,7 @@ unready_shown damaged old left gone SourceStop is early takes raises = record {
   };
 }
 unready_shown damaged old left gone MemoryStop is early takes raises = record {
-  ends = always left.known (λ text. always (damaged.volume text) (λ bytes. refl));
+  ends = always left.known (λ text. (always (damaged.refused text) (λ refusal. untouched old), always (damaged.volume text) (λ bytes. refl)));
   attaches = λ e. absurd (cc);
   leaves = still old (Stopped OutOfMemory) (λ e. absurd (cc)) (λ e. absurd (cc));
   attached = refl;
@@ -162,7 +166,9 @@ mapped_before damaged left seen mid new source taken out put (Err (Stopped Sourc
 mapped_before damaged left seen mid new source taken out put (Err (Stopped OutFault)) faults read ends = text_before damaged left seen mid new source taken out put (Err (Stopped OutFault)) faults read ends
 mapped_before damaged left seen mid new source taken out put (Err (Stopped Malformed)) faults read ends = text_before damaged left seen mid new source taken out put (Err (Stopped Malformed)) faults read ends
 mapped_before damaged left seen mid new source taken out put (Err (Stopped OutOfMemory)) faults read ends =
-    IfSome_then left ends (λ text one. IfSome_then (damaged.volume text) one (λ bytes same. same ∙ ap (λ (c : Counts). wire source.known out.known c) (same_counts mid seen faults read)))
+    IfSome_then left ends (λ text one. (
+      IfSome_then (damaged.refused text) one.0 (λ refusal still_there. record { source = still_there.source; out = still_there.out; unread = still_there.unread ∙ read }),
+      IfSome_then (damaged.volume text) one.1 (λ bytes same. same ∙ ap (λ (c : Counts). wire source.known out.known c) (same_counts mid seen faults read))))
 mapped_before damaged left seen mid new source taken out put (Err ImageFault) faults read ends =
     (record { source = ends.0.source; out = ends.0.out; unread = ends.0.unread ∙ read }, subst (λ (n : ℕ). Rose n new.faults) faults ends.1)
 mapped_before damaged left seen mid new source taken out put (Err MapsFault) faults read ends =

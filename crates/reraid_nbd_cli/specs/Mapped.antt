@@ -102,11 +102,12 @@ abbrev pub EndsByText : DamagedVolume → Place → Place → Result (Unit {0}) 
 EndsByText damaged old new result text = Ends (damaged.refused text) damaged.size (damaged.volume text) (damaged.cost text) old new result
 
 -- How a run ends, where the maps have so much left. An image that could not be attached comes before them, and so do images that are refused.
--- Where memory was wanting nothing was taken of the source, put or read.
+-- Where memory was wanting nothing was taken of the source, put or read, also where the text is refused.
 abbrev pub EndsMapped : DamagedVolume → Option (List ℕ) → Place → Place → Result (Unit {0}) NbdEnd → Type 0
 EndsMapped damaged left old new (Err ImageFault) = IsUntouched old new × Rose old.images.faults new.images.faults
 EndsMapped damaged left old new (Err MapsFault) = (damaged.early ≡ None) × IsUntouched old new × (new.images.faults ≡ old.images.faults)
-EndsMapped damaged left old new (Err (Stopped OutOfMemory)) = IfSome left (λ text. IfSome (damaged.volume text) (λ bytes. wire_of new ≡ wire_of old))
+EndsMapped damaged left old new (Err (Stopped OutOfMemory)) = IfSome left (λ text.
+    IfSome (damaged.refused text) (λ refusal. IsUntouched old new) × IfSome (damaged.volume text) (λ bytes. wire_of new ≡ wire_of old))
 EndsMapped damaged left old new result = IfSome left (EndsByText damaged old new result)
 
 -- what was taken of the maps: nothing where the images are refused, and else 4,194,304 bytes and one more at most; their count of faults rose

@@ -1,6 +1,4 @@
 //! Sectors that `mkfs.btrfs` wrote, and what makes no superblock.
-ghost use Rattle.std.specs.Prelude.{◌+◌, ◌≤◌, length};
-
 use crate::sectors::with;
 use more_marks::{BtrfsSuper, read_btrfs};
 use uuid::Uuid;
@@ -22,9 +20,7 @@ const SECOND: [u8; 8] = [0x00, 0x00, 0x00, 0x04, 0x00, 0x00, 0x00, 0x00];
 const THIRD: [u8; 8] = [0x00, 0x00, 0x00, 0x00, 0x40, 0x00, 0x00, 0x00];
 
 // The superblock, changed there.
-fn super_with(at: usize, bytes: &[u8]) -> Option<BtrfsSuper>
-    requires { at + length bytes.now ≤ 512 }
-{
+fn super_with(at: usize, bytes: &[u8]) -> Option<BtrfsSuper> {
     read_btrfs(&with(with([0; 512], 0, &SUPER), at, bytes))
 }
 

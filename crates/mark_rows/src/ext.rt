@@ -2,8 +2,6 @@
 //!
 //! Each file system was made with `-F -U 01234567-89ab-cdef-0123-456789abcdef`. `dumpe2fs` prints the block size, the
 //! blocks of a group, and the block at which the copy of a group lies.
-ghost use Rattle.std.specs.Prelude.{◌+◌, ◌≤◌, length};
-
 use crate::sectors::with;
 use ext_marks::{ExtSuper, read_ext};
 use uuid::Uuid;
@@ -93,9 +91,7 @@ const LARGE_BLOCKS: [u8; 128] = [
 ];
 
 // The copy that begins so, changed there.
-fn copy_with(front: &[u8; 128], at: usize, bytes: &[u8]) -> Option<ExtSuper>
-    requires { at + length bytes.now ≤ 512 }
-{
+fn copy_with(front: &[u8; 128], at: usize, bytes: &[u8]) -> Option<ExtSuper> {
     read_ext(&with(with([0; 512], 0, front), at, bytes))
 }
 

@@ -1,6 +1,4 @@
 //! Sectors that `sgdisk` wrote, and the bounds of a header and of an entry on both sides.
-ghost use Rattle.std.specs.Prelude.{◌+◌, ◌≤◌, length};
-
 use crate::sectors::with;
 use gpt_marks::{GptHeader, crc32, own_table, read_entries, read_header};
 use uuid::Uuid;
@@ -67,9 +65,7 @@ fn header_of(front: &[u8; 96]) -> Option<GptHeader> {
 }
 
 // The first header, changed there, is one.
-fn is_header(at: usize, bytes: &[u8]) -> bool
-    requires { at + length bytes.now ≤ 512 }
-{
+fn is_header(at: usize, bytes: &[u8]) -> bool {
     read_header(&with(with([0; 512], 0, &FIRST), at, bytes)).is_some()
 }
 
@@ -144,9 +140,7 @@ fn bounds_of_a_header(rt: HostRuntime) {
 const LEAST_TYPE: [u8; 16] = [0, 0, 0, 0, 0, 0, 0, 0, 0, 0, 0, 0, 0, 0, 0, 1];
 
 // Whether these are the first blocks of the entries of the sector, changed there.
-fn are_firsts(at: usize, bytes: &[u8], alternate: u64, firsts: [Option<u64>; 4]) -> bool
-    requires { at + length bytes.now ≤ 512 }
-{
+fn are_firsts(at: usize, bytes: &[u8], alternate: u64, firsts: [Option<u64>; 4]) -> bool {
     let entries = with(with([0; 512], 0, &ENTRY), 128, &SECOND_ENTRY);
     read_entries(&with(entries, at, bytes), alternate) == firsts
 }

@@ -1,6 +1,4 @@
 //! Labels that `pvcreate` wrote, and the bounds of a label on both sides.
-ghost use Rattle.std.specs.Prelude.{◌+◌, ◌≤◌, length};
-
 use crate::sectors::with;
 use more_marks::read_lvm;
 
@@ -18,9 +16,7 @@ const LATER_LABEL: [u8; 32] = [
 ];
 
 // The first label, changed there.
-fn label_with(at: usize, bytes: &[u8]) -> Option<u64>
-    requires { at + length bytes.now ≤ 512 }
-{
+fn label_with(at: usize, bytes: &[u8]) -> Option<u64> {
     read_lvm(&with(with([0; 512], 0, &LABEL), at, bytes))
 }
 

@@ -1,6 +1,4 @@
 //! Sectors that `mkntfs` wrote, and the bounds of a boot sector and of a file record on both sides.
-ghost use Rattle.std.specs.Prelude.{◌+◌, ◌≤◌, length};
-
 use crate::sectors::with;
 use ntfs_marks::{NtfsBoot, NtfsRecord, read_boot, read_record};
 
@@ -44,9 +42,7 @@ fn boot_of(front: &[u8; 80]) -> Option<NtfsBoot> {
 }
 
 // The first boot sector, changed there, is one.
-fn is_boot(at: usize, bytes: &[u8]) -> bool
-    requires { at + length bytes.now ≤ 512 }
-{
+fn is_boot(at: usize, bytes: &[u8]) -> bool {
     read_boot(&with(boot_sector(&BOOT), at, bytes)).is_some()
 }
 
@@ -111,9 +107,7 @@ fn sizes_of_records(rt: HostRuntime) {
 }
 
 // The first boot sector with this number there is one.
-fn has_number(at: usize, number: u64) -> bool
-    requires { at ≤ 504 }
-{
+fn has_number(at: usize, number: u64) -> bool {
     is_boot(at, &number.to_le_bytes())
 }
 
@@ -141,9 +135,7 @@ fn bounds_of_a_boot_sector(rt: HostRuntime) {
 }
 
 // The record, changed there.
-fn record_with(at: usize, bytes: &[u8]) -> Option<NtfsRecord>
-    requires { at + length bytes.now ≤ 512 }
-{
+fn record_with(at: usize, bytes: &[u8]) -> Option<NtfsRecord> {
     read_record(&with(with([0; 512], 0, &RECORD), at, bytes))
 }
 

@@ -1,6 +1,4 @@
 //! Sectors that `mkfs.xfs` wrote, and the bounds of a superblock on both sides.
-ghost use Rattle.std.specs.Prelude.{◌+◌, ◌≤◌, length};
-
 use crate::sectors::with;
 use uuid::Uuid;
 use xfs_marks::{XfsGroup, XfsSuper, read_group, read_super};
@@ -55,9 +53,7 @@ fn is_super(block: u32, blocks: u32, groups: u32, size: u16) -> bool {
 }
 
 // The superblock that begins so, changed there.
-fn super_with(front: &[u8; 112], at: usize, bytes: &[u8]) -> Option<XfsSuper>
-    requires { at + length bytes.now ≤ 512 }
-{
+fn super_with(front: &[u8; 112], at: usize, bytes: &[u8]) -> Option<XfsSuper> {
     read_super(&with(with([0; 512], 0, front), at, bytes))
 }
 
@@ -117,9 +113,7 @@ fn bounds_of_a_superblock(rt: HostRuntime) {
 }
 
 // The AGF, changed there.
-fn group_with(at: usize, bytes: &[u8]) -> Option<XfsGroup>
-    requires { at + length bytes.now ≤ 512 }
-{
+fn group_with(at: usize, bytes: &[u8]) -> Option<XfsGroup> {
     read_group(&with(with([0; 512], 0, &AGF), at, bytes))
 }
 

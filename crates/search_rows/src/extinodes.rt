@@ -1,10 +1,9 @@
 //! Surveys over inodes of an ext4 in memory: copies, descriptors and inodes were put together by hand, field by field, and
 //! their checksums were computed from the polynomial of CRC-32C, outside.
-
-use crate::surveys::{Field, Line, ask, is_group, plan_of, plan_of_fields, put_all, two_images};
+use crate::objects::{Field, Placed};
+use crate::surveying::{Line, Lines, Row, ask, finds, finds_all};
 use landmark_rules::{GroupKind, Kind, Rule};
-use search_plan::{Kinds, Plan};
-use std::process::Abort;
+use search_plan::Kinds;
 use std::test::Fail;
 
 // The copy of group 1 of four groups of 2,048 inodes, in blocks of 1,024 bytes, with descriptors of 64.
@@ -138,208 +137,177 @@ const TURNED: &[Field] = &[(700, &[1])];
 
 const TURNED_GROUP: &[Field] = &[(192, &[1])];
 
-// The sectors of an image with inodes, and with others.
-type Sectors = (usize, &'static [Field]);
-
-const NONE: Sectors = (0, &[]);
-
-// The plan of three sectors of inodes with what else is written, where inodes of ext4 are looked for.
-fn plan_with<R: Abort + AllocGlobal>(rt: &R, more: [Sectors; 6]) -> Result<Plan, Fail> {
-    let [a, b, c, d, e, f] = more;
-    plan_of_fields(
-        rt,
-        &[
-            (9, PAIR),
-            (10, LATER),
-            (11, BETWEEN),
-            (12, PAST),
-            a,
-            b,
-            c,
-            d,
-            e,
-            f,
-        ],
-        Kinds::among(&[GroupKind::Extinode]),
-    )
-}
+// Four sectors of inodes.
+const FOUR: &[Placed] = &[
+    (0, 9, PAIR),
+    (0, 10, LATER),
+    (0, 11, BETWEEN),
+    (0, 12, PAST),
+];
 
 const FIRST_MARK: Line = (Kind::Extinode, 0, 9, Rule::At(565));
 
 const LATER_MARK: Line = (Kind::Extinode, 0, 10, Rule::At(1605));
 
-// Whether there is one group, of these marks.
-fn has_marks(plan: &Plan, lines: &[Line]) -> bool {
-    plan.groups.as_slice().len() == 1 && is_group(plan, 0, GroupKind::Extinode, lines)
-}
+// Where inodes of ext4 are looked for, those whose places the descriptors tell, and those that moved descriptors tell.
+const EXTINODE: &[GroupKind] = &[GroupKind::Extinode];
 
-// Whether there are no groups.
-fn has_none(plan: &Plan) -> bool {
-    plan.groups.as_slice().is_empty()
-}
+const TOLD: &[Lines] = &[(GroupKind::Extinode, &[FIRST_MARK, LATER_MARK])];
+
+const TOLD_MOVED: &[Lines] = &[(
+    GroupKind::Extinode,
+    &[
+        (Kind::Extinode, 0, 9, Rule::At(615)),
+        (Kind::Extinode, 0, 10, Rule::At(1655)),
+    ],
+)];
+
+static COPIES: [Row; 9] = [
+    (&[(0, 20, COPY), (0, 22, DESCRIPTORS)], EXTINODE, TOLD),
+    (
+        &[(0, 20, COPY), (0, 20, NARROW), (0, 22, NARROW_DESCRIPTORS)],
+        EXTINODE,
+        TOLD,
+    ),
+    // without a copy
+    (&[], EXTINODE, &[]),
+    // with one that is not whole
+    (
+        &[(0, 20, COPY), (0, 20, TURNED), (0, 22, DESCRIPTORS)],
+        EXTINODE,
+        &[],
+    ),
+    // of another file system
+    (
+        &[(0, 20, COPY), (0, 20, OTHER_SYSTEM), (0, 22, DESCRIPTORS)],
+        EXTINODE,
+        &[],
+    ),
+    // with descriptors that are not whole or not there
+    (
+        &[(0, 20, COPY), (0, 22, DESCRIPTORS), (0, 22, TURNED_GROUP)],
+        EXTINODE,
+        &[],
+    ),
+    (&[(0, 20, COPY)], EXTINODE, &[]),
+    // of which the image does not have all that is read
+    (&[(0, 145, COPY), (0, 147, DESCRIPTORS)], EXTINODE, &[]),
+    (&[(0, 144, COPY), (0, 146, DESCRIPTORS)], EXTINODE, TOLD),
+];
 
 #[test]
 fn inodes_lie_where_descriptors_tell(rt: HostRuntime) -> Result<(), Fail> {
-    let plan = plan_with(&rt, [(20, COPY), (22, DESCRIPTORS), NONE, NONE, NONE, NONE])?;
-    assert!(rt; has_marks(&plan, &[FIRST_MARK, LATER_MARK]));
-    let narrow = [
-        (20, COPY),
-        (20, NARROW),
-        (22, NARROW_DESCRIPTORS),
-        NONE,
-        NONE,
-        NONE,
-    ];
-    assert!(rt; has_marks(&plan_with(&rt, narrow)?, &[FIRST_MARK, LATER_MARK]));
-    Ok(())
+    finds_all(&rt, FOUR, &COPIES)
 }
 
-// Without a copy, with one that is not whole, of another file system, of which the image does not have all that is read,
-// or with descriptors that are not whole or not there.
-#[test]
-fn other_copies_tell_nothing(rt: HostRuntime) -> Result<(), Fail> {
-    assert!(rt; has_none(&plan_with(&rt, [NONE, NONE, NONE, NONE, NONE, NONE])?));
-    let turned = [
-        (20, COPY),
-        (20, TURNED),
-        (22, DESCRIPTORS),
-        NONE,
-        NONE,
-        NONE,
-    ];
-    assert!(rt; has_none(&plan_with(&rt, turned)?));
-    let other = [
-        (20, COPY),
-        (20, OTHER_SYSTEM),
-        (22, DESCRIPTORS),
-        NONE,
-        NONE,
-        NONE,
-    ];
-    assert!(rt; has_none(&plan_with(&rt, other)?));
-    let torn = [
-        (20, COPY),
-        (22, DESCRIPTORS),
-        (22, TURNED_GROUP),
-        NONE,
-        NONE,
-        NONE,
-    ];
-    assert!(rt; has_none(&plan_with(&rt, torn)?));
-    assert!(rt; has_none(&plan_with(&rt, [(20, COPY), NONE, NONE, NONE, NONE, NONE])?));
-    let cut = [(145, COPY), (147, DESCRIPTORS), NONE, NONE, NONE, NONE];
-    assert!(rt; has_none(&plan_with(&rt, cut)?));
-    let last = [(144, COPY), (146, DESCRIPTORS), NONE, NONE, NONE, NONE];
-    assert!(rt; has_marks(&plan_with(&rt, last)?, &[FIRST_MARK, LATER_MARK]));
-    Ok(())
-}
+static TWO_COPIES: [Row; 3] = [
+    (
+        &[
+            (0, 20, COPY),
+            (0, 22, DESCRIPTORS),
+            (0, 60, COPY),
+            (0, 62, MOVED),
+        ],
+        EXTINODE,
+        TOLD,
+    ),
+    (
+        &[
+            (0, 20, COPY),
+            (0, 22, MOVED),
+            (0, 60, COPY),
+            (0, 62, DESCRIPTORS),
+        ],
+        EXTINODE,
+        TOLD_MOVED,
+    ),
+    (
+        &[
+            (0, 20, COPY),
+            (0, 22, DESCRIPTORS),
+            (0, 22, TURNED_GROUP),
+            (0, 60, COPY),
+            (0, 62, MOVED),
+        ],
+        EXTINODE,
+        TOLD_MOVED,
+    ),
+];
 
 // The one that is met first, of those that tell.
 #[test]
 fn the_first_copy_counts(rt: HostRuntime) -> Result<(), Fail> {
-    let both = [
-        (20, COPY),
-        (22, DESCRIPTORS),
-        (60, COPY),
-        (62, MOVED),
-        NONE,
-        NONE,
-    ];
-    assert!(rt; has_marks(&plan_with(&rt, both)?, &[FIRST_MARK, LATER_MARK]));
-    let moved = [
-        (Kind::Extinode, 0, 9, Rule::At(615)),
-        (Kind::Extinode, 0, 10, Rule::At(1655)),
-    ];
-    let turned = [
-        (20, COPY),
-        (22, MOVED),
-        (60, COPY),
-        (62, DESCRIPTORS),
-        NONE,
-        NONE,
-    ];
-    assert!(rt; has_marks(&plan_with(&rt, turned)?, &moved));
-    let torn = [
-        (20, COPY),
-        (22, DESCRIPTORS),
-        (22, TURNED_GROUP),
-        (60, COPY),
-        (62, MOVED),
-        NONE,
-    ];
-    assert!(rt; has_marks(&plan_with(&rt, torn)?, &moved));
-    Ok(())
+    finds_all(&rt, FOUR, &TWO_COPIES)
 }
+
+static ELSE: [Row; 1] = [(
+    &[
+        (0, 20, COPY),
+        (0, 22, DESCRIPTORS),
+        (0, 70, PAIR),
+        (0, 71, EARLIER),
+        (0, 72, PARITY),
+    ],
+    EXTINODE,
+    &[(
+        GroupKind::Extinode,
+        &[
+            FIRST_MARK,
+            LATER_MARK,
+            (Kind::Extinode, 0, 70, Rule::At(565)),
+            (Kind::Extinode, 0, 72, Rule::At(661)),
+        ],
+    )],
+)];
 
 // Old copies of sectors, as a journal has them, are marks with the rule of what they are copies of; inodes of an earlier
 // file system are none; and the parity of three sectors has the number that their numbers make, added bit by bit: 223.
 #[test]
 fn what_else_passes(rt: HostRuntime) -> Result<(), Fail> {
-    let more = [
-        (20, COPY),
-        (22, DESCRIPTORS),
-        (70, PAIR),
-        (71, EARLIER),
-        (72, PARITY),
-        NONE,
-    ];
-    let lines = [
-        FIRST_MARK,
-        LATER_MARK,
-        (Kind::Extinode, 0, 70, Rule::At(565)),
-        (Kind::Extinode, 0, 72, Rule::At(661)),
-    ];
-    assert!(rt; has_marks(&plan_with(&rt, more)?, &lines));
-    Ok(())
+    finds_all(&rt, FOUR, &ELSE)
 }
+
+const SYSTEMS: &[Placed] = &[
+    (0, 9, PAIR),
+    (0, 10, EARLIER),
+    (0, 20, COPY),
+    (0, 22, DESCRIPTORS),
+];
+
+const COPY_LINES: Lines = (GroupKind::Ext, &[(Kind::Ext, 0, 20, Rule::At(16_386))]);
+
+const FIRST_LINES: Lines = (GroupKind::Extinode, &[FIRST_MARK]);
+
+static SYSTEM_ROWS: [Row; 2] = [
+    (
+        &[],
+        &[GroupKind::Extinode, GroupKind::Ext],
+        &[COPY_LINES, FIRST_LINES],
+    ),
+    (&[], &[GroupKind::Ext], &[COPY_LINES]),
+];
 
 // A group for each file system, behind that of the copies.
 #[test]
 fn each_file_system_has_a_group(rt: HostRuntime) -> Result<(), Fail> {
-    let sectors: [Sectors; 4] = [(9, PAIR), (10, EARLIER), (20, COPY), (22, DESCRIPTORS)];
-    let plan = plan_of_fields(
-        &rt,
-        &sectors,
-        Kinds::among(&[GroupKind::Extinode, GroupKind::Ext]),
-    )?;
-    assert_eq!(rt; plan.groups.as_slice().len(), 2);
-    assert!(rt;
-        is_group(
-            &plan,
-            0,
-            GroupKind::Ext,
-            &[(Kind::Ext, 0, 20, Rule::At(16_386))]
-        )
-    );
-    assert!(rt; is_group(&plan, 1, GroupKind::Extinode, &[FIRST_MARK]));
-    let plan = plan_of_fields(&rt, &sectors, Kinds::among(&[GroupKind::Ext]))?;
-    assert_eq!(rt; plan.groups.as_slice().len(), 1);
-    assert!(rt;
-        is_group(
-            &plan,
-            0,
-            GroupKind::Ext,
-            &[(Kind::Ext, 0, 20, Rule::At(16_386))]
-        )
-    );
-    Ok(())
+    finds_all(&rt, SYSTEMS, &SYSTEM_ROWS)
 }
+
+const TWO_IMAGES: &[Placed] = &[(0, 9, PAIR), (1, 20, COPY), (1, 22, DESCRIPTORS)];
 
 // A copy is read from its own image, and tells of inodes of others; and none of it is looked for where the kind is not named.
 #[test]
 fn copies_tell_of_all_images(rt: HostRuntime) -> Result<(), Fail> {
-    let mut first = vec![in rt.alloc(); 0u8; 204_800]?;
-    let mut second = vec![in rt.alloc(); 0u8; 204_800]?;
-    put_all(&mut first, 4608, PAIR);
-    put_all(&mut second, 10_240, COPY);
-    put_all(&mut second, 11_264, DESCRIPTORS);
-    let mut images = two_images(&rt, &first, &second)?;
     let mut asked = ask(0, 64);
-    asked.kinds = Kinds::among(&[GroupKind::Extinode]);
-    let plan = plan_of(&rt, &mut images, 2, &asked)?;
-    assert!(rt; has_marks(&plan, &[FIRST_MARK]));
-    let mut images = two_images(&rt, &first, &second)?;
-    let plan = plan_of(&rt, &mut images, 2, &ask(0, 64))?;
-    assert!(rt; has_none(&plan));
-    Ok(())
+    asked.kinds = Kinds::among(EXTINODE);
+    finds(
+        &rt,
+        &[400, 400],
+        TWO_IMAGES,
+        &[],
+        &asked,
+        &[0],
+        &[FIRST_LINES],
+    )?;
+    finds(&rt, &[400, 400], TWO_IMAGES, &[], &ask(0, 64), &[0], &[])
 }

@@ -4,7 +4,7 @@
 //! lists may pass, `row_counts` and `many_sets` the rows of sets, `listings` pages, `sampled` what rows that are kept refuse, `surveys` the
 //! plans of images, and `extinodes` and `trees` those of inodes of ext4 and of tree blocks of btrfs.
 //! The tests stand here, since a library with tests is proved a second time with them. Their plans stand in `plans`,
-//! lists and images in `objects`.
+//! lists and images in `objects`, and what surveys ask for in `surveying`.
 #![tactic(auto)]
 
 #[cfg(test)]
@@ -25,6 +25,8 @@ mod products;
 mod row_counts;
 #[cfg(test)]
 mod sampled;
+#[cfg(test)]
+mod surveying;
 #[cfg(test)]
 mod surveys;
 #[cfg(test)]

@@ -2,7 +2,7 @@
 ghost use Rattle.std.specs.Prelude.{◌≤◌};
 ghost use Rattle.search_plan.specs.Plans.{IsPlan};
 
-use crate::objects::{agree, four_images, three_images};
+use crate::objects::agree;
 use crate::plans::{
     allowing, asking, four_with_each_order, one_of_four_lost, three_of_two, two_headers_of_four,
     two_levels,
@@ -15,7 +15,7 @@ use search_plan::Plan;
 use std::process::Abort;
 use std::test::Fail;
 use std::thread::Threads;
-use test_objects::Counted;
+use test_objects::{Counted, attached};
 
 // A page of the sets that pass, of at most `size`.
 fn page_of<R: Threads + Sync + AllocGlobal + Abort, I: Images>(
@@ -37,7 +37,7 @@ fn page_over<R: Threads + Sync + AllocGlobal + Abort>(
     bytes: [u8; 3],
 ) -> Result<(usize, u64, u64), Fail> {
     let [a, b, c] = bytes;
-    let mut images = three_images(rt, [&[a; 1024], &[b; 1024], &[c; 1024]])?;
+    let mut images = attached(rt.alloc(), &[&[a, a], &[b, b], &[c, c]])?;
     let plan = two_levels(rt.alloc());
     let made = page_of(rt, &mut images, &plan, 13).expect(rt, "a page");
     Ok((made.lines.as_slice().len(), made.next, made.total))
@@ -54,7 +54,7 @@ fn a_page(rt: HostRuntime) -> Result<(), Fail> {
 // Five pages at most from rank 3 on, of at most seven lines and seven ranks each.
 fn few_pages<R: Threads + Sync + AllocGlobal + Abort>(rt: &R) -> Result<PageList, Fail> {
     let plan = two_levels(rt.alloc());
-    let mut images = three_images(rt, [&[1; 1024], &[3; 1024], &[7; 1024]])?;
+    let mut images = attached(rt.alloc(), &[&[1, 1], &[3, 3], &[7, 7]])?;
     assert!(rt; agree(&images, &plan) && !plan.each);
     let made = pages(rt, rt.alloc(), &mut images, &plan, 3, 7, 7, 5, &OpenGate);
     Ok(made.expect(rt, "pages"))
@@ -83,7 +83,7 @@ fn lines_without<R: Threads + Sync + AllocGlobal + Abort>(
     call: u64,
 ) -> Result<Option<usize>, Fail> {
     let plan = two_levels(rt.alloc());
-    let mut images = three_images(rt, [&[1; 1024], &[3; 1024], &[2; 1024]])?;
+    let mut images = attached(rt.alloc(), &[&[1, 1], &[3, 3], &[2, 2]])?;
     images.fail_call(call)?;
     let all = page_of(rt, &mut images, &plan, 100);
     Ok(all.map(|found| found.lines.as_slice().len()))
@@ -117,14 +117,14 @@ fn read_by_page<R: Threads + Sync + AllocGlobal + Abort>(
     (made.lines.as_slice().len(), made.next, reads)
 }
 
+// Four images of one sector: Q, two data blocks and P.
+const FOUR: &[&[u8]] = &[&[0x1C], &[0x01], &[0x80], &[0x81]];
+
 // Four images of one sector: the tables of rows take a reading of each, and leave 18 sets. One scan of these reads at most 64 samples
 // and the one tested row, of each image.
 #[test]
 fn few_sectors_are_read_for_many_sets(rt: HostRuntime) -> Result<(), Fail> {
-    let images = four_images(
-        &rt,
-        [&[0x1C; 512], &[0x01; 512], &[0x80; 512], &[0x81; 512]],
-    )?;
+    let images = attached(rt.alloc(), FOUR)?;
     let plan = four_with_each_order(rt.alloc());
     let (lines, next, sectors) = read_by_page(&rt, images, &plan);
     assert_eq!(rt; (lines, next), (2, 72));
@@ -135,11 +135,7 @@ fn few_sectors_are_read_for_many_sets(rt: HostRuntime) -> Result<(), Fail> {
 // 2, 4 and 7 do not cancel bit by bit, so that no set is left once the three images of two sectors were read.
 #[test]
 fn refused_sets_are_not_read_again(rt: HostRuntime) -> Result<(), Fail> {
-    let (mut a, mut b, mut c) = ([1; 1024], [3; 1024], [2; 1024]);
-    a[512..].fill(2);
-    b[512..].fill(4);
-    c[512..].fill(7);
-    let images = three_images(&rt, [&a, &b, &c])?;
+    let images = attached(rt.alloc(), &[&[1, 2], &[3, 4], &[2, 7]])?;
     let plan = three_of_two(rt.alloc());
     let (lines, next, sectors) = read_by_page(&rt, images, &plan);
     assert_eq!(rt; (lines, next), (0, 6));
@@ -147,20 +143,9 @@ fn refused_sets_are_not_read_again(rt: HostRuntime) -> Result<(), Fail> {
     Ok(())
 }
 
-// Three images of three sectors, each sector of one byte, by image and row.
-fn rows_of<R: AllocGlobal>(rt: &R, bytes: [[u8; 3]; 3]) -> Result<MemImages, Fail> {
-    let (mut a, mut b, mut c) = ([0; 1536], [0; 1536], [0; 1536]);
-    for row in 0..3 {
-        a[512 * row..512 * row + 512].fill(bytes[0][row]);
-        b[512 * row..512 * row + 512].fill(bytes[1][row]);
-        c[512 * row..512 * row + 512].fill(bytes[2][row]);
-    }
-    three_images(rt, [&a, &b, &c])
-}
-
 // The first three members of a level 6 of four, left-symmetric, after Q. Its data are 1 and 2, 4 and 8, 16 and 32, so that P is
 // 3, 12, 48 and Q 5, 20, 80.
-const MEMBERS: [[u8; 3]; 3] = [[5, 4, 32], [1, 8, 48], [2, 12, 80]];
+const MEMBERS: &[&[u8]] = &[&[5, 4, 32], &[1, 8, 48], &[2, 12, 80]];
 
 // Of the 24 sets with one lost member the true one has no unsound row, two have one, four two, and the others three. All three rows
 // are samples, so that these settle all that fails.
@@ -168,7 +153,7 @@ const MEMBERS: [[u8; 3]; 3] = [[5, 4, 32], [1, 8, 48], [2, 12, 80]];
 fn as_many_rows_as_may_be_unsound(rt: HostRuntime) -> Result<(), Fail> {
     for (badrows, expected) in [(0, 1), (1, 3), (2, 7), (3, 24)] {
         let plan = allowing(one_of_four_lost(rt.alloc()), badrows);
-        let (lines, next, _) = read_by_page(&rt, rows_of(&rt, MEMBERS)?, &plan);
+        let (lines, next, _) = read_by_page(&rt, attached(rt.alloc(), MEMBERS)?, &plan);
         assert_eq!(rt; (lines, next), (expected, 24));
     }
     Ok(())
@@ -179,7 +164,7 @@ fn as_many_rows_as_may_be_unsound(rt: HostRuntime) -> Result<(), Fail> {
 fn settled_sets_are_not_scanned(rt: HostRuntime) -> Result<(), Fail> {
     for badrows in 0..3 {
         let plan = allowing(one_of_four_lost(rt.alloc()), badrows);
-        let images = rows_of(&rt, [[1; 3], [3; 3], [9; 3]])?;
+        let images = attached(rt.alloc(), &[&[1; 3], &[3; 3], &[9; 3]])?;
         assert_eq!(rt; read_by_page(&rt, images, &plan), (0, 24, 9));
     }
     Ok(())
@@ -189,14 +174,13 @@ fn settled_sets_are_not_scanned(rt: HostRuntime) -> Result<(), Fail> {
 // are read of the one sector of each image.
 #[test]
 fn where_marks_leave_nothing_nothing_is_read(rt: HostRuntime) -> Result<(), Fail> {
-    let bytes: [&[u8]; 4] = [&[0x1C; 512], &[0x01; 512], &[0x80; 512], &[0x81; 512]];
     let plan = asking(two_headers_of_four(rt.alloc())?, 2);
     assert_eq!(rt;
-        read_by_page(&rt, four_images(&rt, bytes)?, &plan),
+        read_by_page(&rt, attached(rt.alloc(), FOUR)?, &plan),
         (0, 24, 0)
     );
     let plan = asking(two_headers_of_four(rt.alloc())?, 1);
-    let (_, next, sectors) = read_by_page(&rt, four_images(&rt, bytes)?, &plan);
+    let (_, next, sectors) = read_by_page(&rt, attached(rt.alloc(), FOUR)?, &plan);
     assert!(rt; next == 24 && sectors >= 4);
     Ok(())
 }

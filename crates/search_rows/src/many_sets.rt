@@ -3,7 +3,7 @@ ghost use Rattle.std.specs.Prelude.{◌≡◌, ◌+◌, ◌≤◌, ◌<◌, ◌^
 ghost use Rattle.raid_params.specs.Validity.{is_shaped};
 ghost use Rattle.parity_scan.specs.declared.many_sets.TheConstants.{MOST_SETS};
 
-use crate::objects::{three_images, three_reach};
+use crate::objects::three_reach;
 use crate::plans::three_rows;
 use crate::row_counts::three_members;
 use image_source::MemImages;
@@ -15,7 +15,7 @@ use std::alloc::Global;
 use std::process::Abort;
 use std::test::Fail;
 use std::thread::Threads;
-use test_objects::Meeting;
+use test_objects::{Meeting, attached};
 
 // Sets number `first` on of three members, of which every third begins at sector 0 and the others at sector 1.
 fn some_sets(alloc: Global, first: usize, count: usize) -> Result<Vec<Geometry>, Fail>
@@ -83,11 +83,7 @@ fn verdicts<R: Threads + Sync + Abort, G: Gate + Sync>(
 // Sector 0 of the images holds 1, 3 and the last one's first byte. Sector 1 is a sound row, since 2, 4 and 6 cancel
 // bit by bit.
 fn two_rows<R: AllocGlobal>(rt: &R, first: u8) -> Result<MemImages, Fail> {
-    let (mut a, mut b, mut c) = ([1; 1024], [3; 1024], [first; 1024]);
-    a[512..].fill(2);
-    b[512..].fill(4);
-    c[512..].fill(6);
-    three_images(rt, [&a, &b, &c])
+    Ok(attached(rt.alloc(), &[&[1, 2], &[3, 4], &[first, 6]])?)
 }
 
 // 1, 3 and 7 do not cancel bit by bit, so that sector 0 is no sound row.

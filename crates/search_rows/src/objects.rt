@@ -5,9 +5,10 @@ ghost use Rattle.search_plan.specs.Plans.{AgreeWith};
 
 use arrayvec::ArrayVec;
 use image_source::MemImages;
-use outside::Images;
+use outside::{Images, Memory};
 use search_plan::Plan;
-use std::test::Fail;
+use std::alloc::Global;
+use test_objects::{NAMES, join};
 
 // The elements, in order.
 pub fn filled<T: Copy + Default, const N: usize>(items: &[T]) -> ArrayVec<T, N>
@@ -21,29 +22,53 @@ pub fn filled<T: Copy + Default, const N: usize>(items: &[T]) -> ArrayVec<T, N>
     list
 }
 
-// Three images, attached in this order.
-pub fn three_images<R: AllocGlobal>(rt: &R, bytes: [&[u8]; 3]) -> Result<MemImages, Fail> {
-    let mut images = MemImages::new(rt.alloc())?;
-    images.add("a", bytes[0])?;
-    images.add("b", bytes[1])?;
-    images.add("c", bytes[2])?;
-    images.attach("a")?;
-    images.attach("b")?;
-    images.attach("c")?;
-    Ok(images)
+/// Fields of a sector: where each stands, and its bytes.
+pub type Field = (usize, &'static [u8]);
+
+/// Fields of a sector of an image: the image's number, the sector's, and the fields.
+pub type Placed = (usize, usize, &'static [Field]);
+
+// Writes the fields of a sector that begins at `start`.
+fn put_all(image: &mut [u8], start: usize, fields: &[Field]) {
+    for (at, field) in fields {
+        let from = start.saturating_add(*at);
+        for (place, byte) in field.iter().enumerate() {
+            if let Some(old) = image.get_mut(from.saturating_add(place)) {
+                *old = *byte;
+            }
+        }
+    }
 }
 
-// Four of them.
-pub fn four_images<R: AllocGlobal>(rt: &R, bytes: [&[u8]; 4]) -> Result<MemImages, Fail> {
-    let mut images = MemImages::new(rt.alloc())?;
-    images.add("a", bytes[0])?;
-    images.add("b", bytes[1])?;
-    images.add("c", bytes[2])?;
-    images.add("d", bytes[3])?;
-    images.attach("a")?;
-    images.attach("b")?;
-    images.attach("c")?;
-    images.attach("d")?;
+// The bytes of an image of so many sectors, zero but for these fields.
+fn image_of(
+    alloc: Global,
+    number: usize,
+    sectors: usize,
+    base: &[Placed],
+    placed: &[Placed],
+) -> Result<Vec<u8>, Memory> {
+    let mut bytes = vec![in alloc; 0u8; sectors.saturating_mul(512)].map_err(|_| Memory)?;
+    for (image, sector, fields) in base.iter().chain(placed) {
+        if *image == number {
+            put_all(&mut bytes, sector.saturating_mul(512), fields);
+        }
+    }
+    Ok(bytes)
+}
+
+/// Images of these numbers of sectors, attached in this order, zero but for the fields of both lists, one after the other.
+pub fn images_of(
+    alloc: Global,
+    lengths: &[usize],
+    base: &[Placed],
+    placed: &[Placed],
+) -> Result<MemImages, Memory> {
+    let mut images = MemImages::new(alloc)?;
+    for (number, sectors) in lengths.iter().enumerate() {
+        let bytes = image_of(alloc, number, *sectors, base, placed)?;
+        join(&mut images, NAMES[number.min(23)], &bytes)?;
+    }
     Ok(images)
 }
 

@@ -6,7 +6,7 @@ ghost use Rattle.raid_params.specs.Validity.{is_valid_head};
 ghost use Rattle.search_plan.specs.Plans.{IsPlan, AgreeWith};
 ghost use Rattle.prune_filters.specs.Hopeful.{IsPrefix};
 
-use crate::objects::{agree, four_images, three_images};
+use crate::objects::agree;
 use crate::plans::{
     allowing, four_of_one, one_missing, three_of_two, two_headers, two_headers_of_four,
 };
@@ -18,6 +18,7 @@ use search_plan::Plan;
 use std::alloc::Global;
 use std::process::Abort;
 use std::test::Fail;
+use test_objects::attached;
 
 // Left-symmetric from sector 0 on, with chunks of one sector.
 fn head_of(level: Level, members: u8, syndrome: Syndrome) -> Head
@@ -88,11 +89,7 @@ fn four_admit<R: AllocGlobal + Abort>(rt: &R, images: &mut MemImages, image: u8)
 // 2, 4 and 7 do not cancel bit by bit, so that one row is unsound in every order.
 #[test]
 fn a_row_too_many(rt: HostRuntime) -> Result<(), Fail> {
-    let (mut a, mut b, mut c) = ([1; 1024], [3; 1024], [2; 1024]);
-    a[512..].fill(2);
-    b[512..].fill(4);
-    c[512..].fill(7);
-    let mut images = three_images(&rt, [&a, &b, &c])?;
+    let mut images = attached(rt.alloc(), &[&[1, 2], &[3, 4], &[2, 7]])?;
     assert!(rt; !three_admit(&rt, &mut images, 0));
     assert!(rt; three_admit(&rt, &mut images, 1));
     Ok(())
@@ -101,10 +98,7 @@ fn a_row_too_many(rt: HostRuntime) -> Result<(), Fail> {
 // 01, 80 and 81 cancel, and no other three of the images do.
 #[test]
 fn one_image_may_hold_q(rt: HostRuntime) -> Result<(), Fail> {
-    let mut images = four_images(
-        &rt,
-        [&[0x1C; 512], &[0x01; 512], &[0x80; 512], &[0x81; 512]],
-    )?;
+    let mut images = attached(rt.alloc(), &[&[0x1C], &[0x01], &[0x80], &[0x81]])?;
     assert!(rt; four_admit(&rt, &mut images, 0));
     assert!(rt; !four_admit(&rt, &mut images, 1));
     assert!(rt; !four_admit(&rt, &mut images, 2));
@@ -119,8 +113,7 @@ fn header_admits<R: AllocGlobal + Abort>(rt: &R, image: u8) -> Result<Option<boo
     let plan = two_headers(rt.alloc())?;
     let head = head_of(Level::Raid5, 3, Syndrome::NoQ);
     assert!(rt; head.is_valid());
-    let zero = [0; 512];
-    let mut images = three_images(rt, [&zero, &zero, &zero])?;
+    let mut images = attached(rt.alloc(), &[&[0], &[0], &[0]])?;
     assert!(rt; agree(&images, &plan));
     Ok(admits(rt.alloc(), &mut images, &plan, &head, &first(image)))
 }

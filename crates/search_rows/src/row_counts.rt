@@ -1,7 +1,7 @@
 //! Counts of unsound rows, over images in memory.
 ghost use Rattle.std.specs.Prelude.{◌≡◌, ◌^◌, ◌<◌, length};
 
-use crate::objects::{three_images, three_reach};
+use crate::objects::{images_of, three_reach};
 use crate::plans::three_rows;
 use image_source::MemImages;
 use outside::Images;
@@ -9,6 +9,7 @@ use raid_params::{Geometry, Head, Level, Pattern, Slots, Syndrome};
 use row_scan::unsound;
 use std::process::Abort;
 use std::test::Fail;
+use test_objects::attached;
 
 // How many rows are unsound.
 #[tactic(auto, using(crate::proofs::TestSets::three_scannable))]
@@ -75,14 +76,9 @@ fn parity_last(level: Level, syndrome: Syndrome) -> Geometry
 #[test]
 fn two_rows(rt: HostRuntime) -> Result<(), Fail> {
     let geo = three_members(1);
-    let (mut a, mut b, mut c) = ([1; 1024], [3; 1024], [2; 1024]);
-    a[512..].fill(2);
-    b[512..].fill(4);
-    c[512..].fill(6);
-    let mut images = three_images(&rt, [&a, &b, &c])?;
+    let mut images = attached(rt.alloc(), &[&[1, 2], &[3, 4], &[2, 6]])?;
     assert_eq!(rt; count(&rt, &mut images, &geo, 2, 2), Some(0));
-    c[512..].fill(7);
-    let mut images = three_images(&rt, [&a, &b, &c])?;
+    let mut images = attached(rt.alloc(), &[&[1, 2], &[3, 4], &[2, 7]])?;
     assert_eq!(rt; count(&rt, &mut images, &geo, 2, 2), Some(1));
     assert_eq!(rt; count(&rt, &mut images, &geo, 2, 1), Some(0));
     Ok(())
@@ -91,10 +87,7 @@ fn two_rows(rt: HostRuntime) -> Result<(), Fail> {
 // 600 rows, of which the last has a bad byte.
 #[test]
 fn many_blocks(rt: HostRuntime) -> Result<(), Fail> {
-    let zeros = vec![in rt.alloc(); 0u8; 307_200]?;
-    let mut other = vec![in rt.alloc(); 0u8; 307_200]?;
-    other[307_199] = 1;
-    let mut images = three_images(&rt, [&zeros, &other, &zeros])?;
+    let mut images = images_of(rt.alloc(), &[600; 3], &[(1, 599, &[(511, &[1])])], &[])?;
     let geo = three_members(8);
     assert_eq!(rt; count(&rt, &mut images, &geo, 600, 600), Some(1));
     assert_eq!(rt; count(&rt, &mut images, &geo, 600, 599), Some(0));
@@ -106,9 +99,7 @@ fn many_blocks(rt: HostRuntime) -> Result<(), Fail> {
 // any bytes can be a row.
 #[test]
 fn a_missing_member(rt: HostRuntime) -> Result<(), Fail> {
-    let mut q = [9; 1024];
-    q[512..].fill(8);
-    let mut images = three_images(&rt, [&[3; 1024], &[6; 1024], &q])?;
+    let mut images = attached(rt.alloc(), &[&[3, 3], &[6, 6], &[9, 8]])?;
     let geo = parity_last(Level::Raid6, Syndrome::BySlot);
     assert_eq!(rt; count(&rt, &mut images, &geo, 2, 1), Some(0));
     assert_eq!(rt; count(&rt, &mut images, &geo, 2, 2), Some(1));

@@ -1,19 +1,18 @@
 //! Rows that are read and kept, over images in memory.
 ghost use Rattle.std.specs.Prelude.{◌≡◌};
 
-use crate::objects::{agree, three_images};
+use crate::objects::agree;
 use crate::plans::two_levels;
 use row_samples::read_rows;
 use std::process::Abort;
 use std::test::Fail;
+use test_objects::attached;
 
 // Whether some of two rows of three images, of which each holds one byte, are kept. None where they are not read.
 fn some_kept<R: Abort + AllocGlobal>(rt: &R, bytes: [u8; 3]) -> Result<Option<bool>, Fail> {
+    let [a, b, c] = bytes;
     let plan = two_levels(rt.alloc());
-    let mut images = three_images(
-        rt,
-        [&[bytes[0]; 1024], &[bytes[1]; 1024], &[bytes[2]; 1024]],
-    )?;
+    let mut images = attached(rt.alloc(), &[&[a, a], &[b, b], &[c, c]])?;
     assert!(rt; agree(&images, &plan));
     assert!(rt; plan.end >= 2);
     let scope = plan.scope();

@@ -1,10 +1,9 @@
 //! Surveys over tree blocks of a btrfs in memory: the leaf was put together by hand, field by field, and its checksums
 //! were computed from the polynomial of CRC-32C, outside.
-
-use crate::surveys::{Field, Line, ask, is_group, plan_of, plan_of_fields, put_all, two_images};
+use crate::objects::{Field, Placed};
+use crate::surveying::{Line, Lines, Row, ask, finds, finds_all};
 use landmark_rules::{GroupKind, Kind, Rule};
-use search_plan::{Kinds, Plan};
-use std::process::Abort;
+use search_plan::Kinds;
 use std::test::Fail;
 
 const IDENTIFIER: &[u8] = &[
@@ -82,35 +81,15 @@ const OTHER_SYSTEM: &[Field] = &[
 
 const TURNED: &[Field] = &[(9_000, &[1])];
 
-// The sectors of an image with three blocks, and with others.
-type Sectors = (usize, &'static [Field]);
-
-const BLOCKS: [Sectors; 6] = [
-    (9, BLOCK),
-    (9, IN_DUP),
-    (10, BLOCK),
-    (10, IN_SINGLE),
-    (11, BLOCK),
-    (11, IN_NONE),
+// Three blocks.
+const BLOCKS: &[Placed] = &[
+    (0, 9, BLOCK),
+    (0, 9, IN_DUP),
+    (0, 10, BLOCK),
+    (0, 10, IN_SINGLE),
+    (0, 11, BLOCK),
+    (0, 11, IN_NONE),
 ];
-
-// The plan of these blocks with a leaf in sector 100 and what is written over it, and more sectors.
-fn plan_with<R: Abort + AllocGlobal>(
-    rt: &R,
-    leaf: Sectors,
-    over: Sectors,
-    more: [Sectors; 3],
-) -> Result<Plan, Fail> {
-    let [a, b, c, d, e, f] = BLOCKS;
-    let [g, h, i] = more;
-    plan_of_fields(
-        rt,
-        &[a, b, c, d, e, f, leaf, over, g, h, i],
-        Kinds::among(&[GroupKind::Btrfstree]),
-    )
-}
-
-const NONE: Sectors = (0, &[]);
 
 const DUP_MARK: Line = (Kind::Btrfstree, 0, 9, Rule::Either(75_904, 141_440));
 
@@ -118,114 +97,103 @@ const SINGLE_MARK: Line = (Kind::Btrfstree, 0, 10, Rule::At(10_496));
 
 const LEAF_MARK: Line = (Kind::Btrfstree, 0, 100, Rule::At(10_624));
 
-// A block whose address no chunk has is no mark.
+const SECOND_MARK: Line = (Kind::Btrfstree, 0, 200, Rule::At(10_624));
+
+// Where tree blocks of btrfs are looked for.
+const BTRFSTREE: &[GroupKind] = &[GroupKind::Btrfstree];
+
+static LEAVES: [Row; 5] = [
+    // a block whose address no chunk has is no mark
+    (
+        &[(0, 100, LEAF)],
+        BTRFSTREE,
+        &[(GroupKind::Btrfstree, &[DUP_MARK, SINGLE_MARK, LEAF_MARK])],
+    ),
+    // without a leaf
+    (&[], BTRFSTREE, &[]),
+    // with one that is not whole, or that the image does not have whole
+    (&[(0, 100, LEAF), (0, 100, TURNED)], BTRFSTREE, &[]),
+    (&[(0, 369, LEAF)], BTRFSTREE, &[]),
+    // of another file system, whose own place it tells alone
+    (
+        &[(0, 100, LEAF), (0, 100, OTHER_SYSTEM)],
+        BTRFSTREE,
+        &[(GroupKind::Btrfstree, &[LEAF_MARK])],
+    ),
+];
+
 #[test]
 fn tree_blocks_lie_where_a_leaf_tells(rt: HostRuntime) -> Result<(), Fail> {
-    let plan = plan_with(&rt, (100, LEAF), NONE, [NONE, NONE, NONE])?;
-    assert_eq!(rt; plan.groups.as_slice().len(), 1);
-    assert!(rt;
-        is_group(
-            &plan,
-            0,
-            GroupKind::Btrfstree,
-            &[DUP_MARK, SINGLE_MARK, LEAF_MARK]
-        )
-    );
-    Ok(())
+    finds_all(&rt, BLOCKS, &LEAVES)
 }
 
-// Whether there are no groups.
-fn has_none(plan: &Plan) -> bool {
-    plan.groups.as_slice().is_empty()
-}
+// What is found where the first leaf counts, and where the moved one does.
+const BY_THE_FIRST: &[Lines] = &[(
+    GroupKind::Btrfstree,
+    &[DUP_MARK, SINGLE_MARK, LEAF_MARK, SECOND_MARK],
+)];
 
-// Without a leaf, with one that is not whole, that the image does not have whole, or of another file system, whose own
-// place it tells alone.
-#[test]
-fn other_leaves_tell_nothing(rt: HostRuntime) -> Result<(), Fail> {
-    let nothing = [NONE, NONE, NONE];
-    assert!(rt; has_none(&plan_with(&rt, NONE, NONE, nothing)?));
-    assert!(rt; has_none(&plan_with(&rt, (100, LEAF), (100, TURNED), nothing)?));
-    assert!(rt; has_none(&plan_with(&rt, (369, LEAF), NONE, nothing)?));
-    let plan = plan_with(&rt, (100, LEAF), (100, OTHER_SYSTEM), nothing)?;
-    assert_eq!(rt; plan.groups.as_slice().len(), 1);
-    assert!(rt; is_group(&plan, 0, GroupKind::Btrfstree, &[LEAF_MARK]));
-    Ok(())
-}
-
-// Whichever comes first.
-#[test]
-fn the_newest_leaf_counts(rt: HostRuntime) -> Result<(), Fail> {
-    let plan = plan_with(
-        &rt,
-        (100, LEAF),
-        NONE,
-        [(200, LEAF), (200, MOVED), (200, SIXTH)],
-    )?;
-    let second = (Kind::Btrfstree, 0, 200, Rule::At(10_624));
-    assert!(rt;
-        is_group(
-            &plan,
-            0,
-            GroupKind::Btrfstree,
-            &[DUP_MARK, SINGLE_MARK, LEAF_MARK, second]
-        )
-    );
-    let plan = plan_with(
-        &rt,
-        (100, LEAF),
-        NONE,
-        [(200, LEAF), (200, MOVED), (200, EIGHTH)],
-    )?;
-    let moved = [
+const BY_THE_MOVED: &[Lines] = &[(
+    GroupKind::Btrfstree,
+    &[
         (Kind::Btrfstree, 0, 9, Rule::Either(77_952, 141_440)),
         (Kind::Btrfstree, 0, 10, Rule::At(12_544)),
         (Kind::Btrfstree, 0, 100, Rule::At(12_672)),
         (Kind::Btrfstree, 0, 200, Rule::At(12_672)),
-    ];
-    assert!(rt; is_group(&plan, 0, GroupKind::Btrfstree, &moved));
-    Ok(())
+    ],
+)];
+
+static TWO_LEAVES: [Row; 4] = [
+    // the newest counts, whichever comes first
+    (
+        &[
+            (0, 100, LEAF),
+            (0, 200, LEAF),
+            (0, 200, MOVED),
+            (0, 200, SIXTH),
+        ],
+        BTRFSTREE,
+        BY_THE_FIRST,
+    ),
+    (
+        &[
+            (0, 100, LEAF),
+            (0, 200, LEAF),
+            (0, 200, MOVED),
+            (0, 200, EIGHTH),
+        ],
+        BTRFSTREE,
+        BY_THE_MOVED,
+    ),
+    // two of one generation that tell of different places, and then of one
+    (
+        &[
+            (0, 100, LEAF),
+            (0, 200, LEAF),
+            (0, 200, MOVED),
+            (0, 200, SEVENTH),
+        ],
+        BTRFSTREE,
+        &[],
+    ),
+    (&[(0, 100, LEAF), (0, 200, LEAF)], BTRFSTREE, BY_THE_FIRST),
+];
+
+#[test]
+fn two_leaves_may_disagree(rt: HostRuntime) -> Result<(), Fail> {
+    finds_all(&rt, BLOCKS, &TWO_LEAVES)
 }
 
-// Two leaves of one generation that tell of different places, and then of one.
-#[test]
-fn leaves_may_disagree(rt: HostRuntime) -> Result<(), Fail> {
-    let plan = plan_with(
-        &rt,
-        (100, LEAF),
-        NONE,
-        [(200, LEAF), (200, MOVED), (200, SEVENTH)],
-    )?;
-    assert!(rt; has_none(&plan));
-    let plan = plan_with(&rt, (100, LEAF), NONE, [(200, LEAF), NONE, NONE])?;
-    let second = (Kind::Btrfstree, 0, 200, Rule::At(10_624));
-    assert!(rt;
-        is_group(
-            &plan,
-            0,
-            GroupKind::Btrfstree,
-            &[DUP_MARK, SINGLE_MARK, LEAF_MARK, second]
-        )
-    );
-    Ok(())
-}
+const TWO_IMAGES: &[Placed] = &[(0, 9, BLOCK), (0, 9, IN_DUP), (1, 40, LEAF)];
+
+const OTHER_LEAF: Line = (Kind::Btrfstree, 1, 40, Rule::At(10_624));
 
 // A leaf is read from its own image, and tells of blocks of others; and none of it is looked for where its kind is not named.
 #[test]
 fn leaves_tell_of_all_images(rt: HostRuntime) -> Result<(), Fail> {
-    let mut first = vec![in rt.alloc(); 0u8; 51_200]?;
-    let mut second = vec![in rt.alloc(); 0u8; 51_200]?;
-    put_all(&mut first, 4608, BLOCK);
-    put_all(&mut first, 4608, IN_DUP);
-    put_all(&mut second, 20_480, LEAF);
-    let mut images = two_images(&rt, &first, &second)?;
     let mut asked = ask(0, 64);
-    asked.kinds = Kinds::among(&[GroupKind::Btrfstree]);
-    let plan = plan_of(&rt, &mut images, 2, &asked)?;
-    let leaf = (Kind::Btrfstree, 1, 40, Rule::At(10_624));
-    assert!(rt; is_group(&plan, 0, GroupKind::Btrfstree, &[DUP_MARK, leaf]));
-    let mut images = two_images(&rt, &first, &second)?;
-    let plan = plan_of(&rt, &mut images, 2, &ask(0, 64))?;
-    assert!(rt; has_none(&plan));
-    Ok(())
+    asked.kinds = Kinds::among(BTRFSTREE);
+    let found: [Lines; 1] = [(GroupKind::Btrfstree, &[DUP_MARK, OTHER_LEAF])];
+    finds(&rt, &[100, 100], TWO_IMAGES, &[], &asked, &[0], &found)?;
+    finds(&rt, &[100, 100], TWO_IMAGES, &[], &ask(0, 64), &[0], &[])
 }

@@ -1,7 +1,7 @@
 use Rattle.std.proofs.Common.{arith, rules, below_more}
 use Rattle.image_source.specs.Memory.{seen_of}
 use Rattle.search_rows.proofs.TestAsks.{are_long, is_long}
-use Rattle.search_rows.proofs.surveys.are_long.Goals as goal
+use Rattle.search_rows.proofs.surveying.are_long.Goals as goal
 
 pub loop-image-preserved : goal.loop-image-preserved
 loop-image-preserved c = below_more _ _ c.loop-image.invariant (is_long (seen_of c.args.images.now).attached c.args.end c.loop-image.image (search rules))

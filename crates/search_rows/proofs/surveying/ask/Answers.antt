@@ -1,6 +1,6 @@
 use Rattle.std.proofs.Common.{refl, inl, arith}
 use Rattle.search_rows.proofs.TestAsks.{bounds_are, tests_are}
-use Rattle.search_rows.proofs.surveys.ask.Goals as goal
+use Rattle.search_rows.proofs.surveying.ask.Goals as goal
 
 pub returns-clause-limits : goal.returns-clause-limits
 returns-clause-limits c = record {

@@ -1,5 +1,5 @@
 //! What is written of sets where the data of images begin at different sectors, and what of such sets is refused.
-use crate::objects::{are_sectors, attached, images_of};
+use crate::objects::{are_sectors, near};
 use image_source::{MemImages, MemSink};
 use raid_params::GeoFault;
 use run_ends::{Refusal, Stop};
@@ -7,21 +7,14 @@ use set_jobs::{map, rebuild, write};
 use std::alloc::Global;
 use std::process::Abort;
 use std::test::Fail;
+use test_objects::attached;
 use value_text::read_set;
 
 /// Three members of an array whose data begin at sector 1 of the first image, and at sector 0 of the others.
-fn three_images<R: Abort>(rt: &R, alloc: Global) -> Result<MemImages, Fail> {
-    images_of(
-        rt,
-        alloc,
-        &[("a", &[9, 1, 2]), ("b", &[3, 4, 9]), ("c", &[2, 6, 9])],
-    )
-}
+const THREE: &[&[u8]] = &[&[9, 1, 2], &[3, 4, 9], &[2, 6, 9]];
 
 /// The first two of them.
-fn two_images<R: Abort>(rt: &R, alloc: Global) -> Result<MemImages, Fail> {
-    images_of(rt, alloc, &[("a", &[9, 1, 2]), ("b", &[3, 4, 9])])
-}
+const TWO: &[&[u8]] = &[&[9, 1, 2], &[3, 4, 9]];
 
 /// Why the volume of a set is not written, over `count` images.
 fn write_stop<R: Abort>(
@@ -32,7 +25,7 @@ fn write_stop<R: Abort>(
     word: &[u8],
     sink: &mut MemSink,
 ) -> Result<Option<Stop>, Fail> {
-    attached(rt, images, count);
+    near(rt, images, count);
     match read_set(word) {
         Some(set) => Ok(write(alloc, images, count as usize, &set, None, sink).err()),
         None => Err("a set".into()),
@@ -49,7 +42,7 @@ fn rebuild_stop<R: Abort>(
     slot: u8,
     sink: &mut MemSink,
 ) -> Result<Option<Stop>, Fail> {
-    attached(rt, images, count);
+    near(rt, images, count);
     match read_set(word) {
         Some(set) => Ok(rebuild(alloc, images, count as usize, &set, None, slot, sink).err()),
         None => Err("a set".into()),
@@ -66,7 +59,7 @@ fn map_stop<R: Abort>(
     sector: u64,
     sink: &mut MemSink,
 ) -> Result<Option<Stop>, Fail> {
-    attached(rt, images, count);
+    near(rt, images, count);
     match read_set(word) {
         Some(set) => Ok(map(alloc, images, count as usize, &set, None, sector, sink).err()),
         None => Err("a set".into()),
@@ -76,7 +69,7 @@ fn map_stop<R: Abort>(
 #[test]
 fn a_volume(rt: HostRuntime) -> Result<(), Fail> {
     let alloc = rt.alloc();
-    let mut images = three_images(&rt, alloc)?;
+    let mut images = attached(alloc, THREE)?;
     let mut sink = MemSink::new(alloc, 4096)?;
     let stop = write_stop(
         &rt,
@@ -94,7 +87,7 @@ fn a_volume(rt: HostRuntime) -> Result<(), Fail> {
 #[test]
 fn a_member(rt: HostRuntime) -> Result<(), Fail> {
     let alloc = rt.alloc();
-    let mut images = two_images(&rt, alloc)?;
+    let mut images = attached(alloc, TWO)?;
     let mut sink = MemSink::new(alloc, 4096)?;
     let stop = rebuild_stop(
         &rt,
@@ -129,7 +122,7 @@ static PLACES: [(u64, &[u8]); 3] = [
 #[test]
 fn places(rt: HostRuntime) -> Result<(), Fail> {
     let alloc = rt.alloc();
-    let images = two_images(&rt, alloc)?;
+    let images = attached(alloc, TWO)?;
     for (sector, text) in &PLACES {
         let mut sink = MemSink::new(alloc, 4096)?;
         let stop = map_stop(
@@ -157,7 +150,7 @@ static OTHER_BASES: [(&[u8], u8); 3] = [
 #[test]
 fn bases_that_do_not_suit_the_images(rt: HostRuntime) -> Result<(), Fail> {
     let alloc = rt.alloc();
-    let mut images = three_images(&rt, alloc)?;
+    let mut images = attached(alloc, THREE)?;
     let mut sink = MemSink::new(alloc, 4096)?;
     for (word, count) in &OTHER_BASES {
         let stop = write_stop(&rt, alloc, &mut images, 3, word, &mut sink)?;
@@ -170,7 +163,7 @@ fn bases_that_do_not_suit_the_images(rt: HostRuntime) -> Result<(), Fail> {
 #[test]
 fn the_rule_on_bases_is_the_last_one(rt: HostRuntime) -> Result<(), Fail> {
     let alloc = rt.alloc();
-    let mut images = two_images(&rt, alloc)?;
+    let mut images = attached(alloc, TWO)?;
     let mut sink = MemSink::new(alloc, 4096)?;
     let word = b"5:ls:none:1:0+0+0:0,1,-";
     let stop = rebuild_stop(&rt, alloc, &mut images, 2, word, 0, &mut sink)?;

@@ -1,6 +1,6 @@
 //! Volumes read as devices, over images in memory: from each sector on, and of each length, one read after the other. What the
 //! images hold was worked out by `bench/making/disks.py`, a byte for each sector.
-use crate::objects::{NO, are_sectors, images_of, pad, serve, serve_mirror, set_of};
+use crate::objects::{NO, are_sectors, pad, serve, serve_mirror, set_of};
 use block_device::BlockDevice;
 use image_padding::Padded;
 use image_source::MemImages;
@@ -10,6 +10,7 @@ use raid_params::{Geometry, Level, Pattern, Syndrome};
 use std::alloc::Global;
 use std::process::Abort;
 use std::test::Fail;
+use test_objects::attached;
 use volume_device::{Kept, MirrorDevice, ParityDevice};
 
 /// The sectors of the volumes.
@@ -63,12 +64,8 @@ fn mirror_gives<R: Abort>(rt: &R, images: &mut MemImages, word: &[u8]) -> Result
 
 #[test]
 fn without_parity(rt: HostRuntime) -> Result<(), Fail> {
-    let named: [(&str, &[u8]); 3] = [
-        ("a", &[1, 2, 7, 8]),
-        ("b", &[3, 4, 9, 10]),
-        ("c", &[5, 6, 11, 12]),
-    ];
-    let mut images = images_of(&rt, rt.alloc(), &named)?;
+    let named: [&[u8]; 3] = [&[1, 2, 7, 8], &[3, 4, 9, 10], &[5, 6, 11, 12]];
+    let mut images = attached(rt.alloc(), &named)?;
     let held = [Some(0), Some(1), Some(2)];
     let geo = set_of(&rt, Level::Raid0, Pattern::Plain, Syndrome::NoQ, 2, &held);
     set_gives(&rt, rt.alloc(), &mut images, 3, &geo, 4)
@@ -77,12 +74,12 @@ fn without_parity(rt: HostRuntime) -> Result<(), Fail> {
 // Left-symmetric, in chunks of two sectors, with each member lost and none.
 #[test]
 fn one_parity(rt: HostRuntime) -> Result<(), Fail> {
-    let named: [(&str, &[u8]); 3] = [
-        ("a", &[1, 2, 7, 8, 2, 6]),
-        ("b", &[3, 4, 2, 14, 9, 10]),
-        ("c", &[2, 6, 5, 6, 11, 12]),
+    let named: [&[u8]; 3] = [
+        &[1, 2, 7, 8, 2, 6],
+        &[3, 4, 2, 14, 9, 10],
+        &[2, 6, 5, 6, 11, 12],
     ];
-    let mut images = images_of(&rt, rt.alloc(), &named)?;
+    let mut images = attached(rt.alloc(), &named)?;
     for held in &[
         [Some(0), Some(1), Some(2)],
         [NO, Some(1), Some(2)],
@@ -98,12 +95,12 @@ fn one_parity(rt: HostRuntime) -> Result<(), Fail> {
 // The same, where the data of the first image begin a sector later than those of the others.
 #[test]
 fn with_bases(rt: HostRuntime) -> Result<(), Fail> {
-    let named: [(&str, &[u8]); 3] = [
-        ("a", &[99, 1, 2, 7, 8, 2, 6]),
-        ("b", &[3, 4, 2, 14, 9, 10]),
-        ("c", &[2, 6, 5, 6, 11, 12, 99]),
+    let named: [&[u8]; 3] = [
+        &[99, 1, 2, 7, 8, 2, 6],
+        &[3, 4, 2, 14, 9, 10],
+        &[2, 6, 5, 6, 11, 12, 99],
     ];
-    let mut images = images_of(&rt, rt.alloc(), &named)?;
+    let mut images = attached(rt.alloc(), &named)?;
     for held in &[
         [Some(0), Some(1), Some(2)],
         [NO, Some(1), Some(2)],
@@ -122,13 +119,13 @@ fn with_bases(rt: HostRuntime) -> Result<(), Fail> {
 // The same with Q, and up to two members lost.
 #[test]
 fn two_parities(rt: HostRuntime) -> Result<(), Fail> {
-    let named: [(&str, &[u8]); 4] = [
-        ("a", &[7, 10, 5, 6, 11, 12]),
-        ("b", &[1, 2, 7, 8, 2, 6]),
-        ("c", &[3, 4, 2, 14, 31, 18]),
-        ("d", &[2, 6, 11, 22, 9, 10]),
+    let named: [&[u8]; 4] = [
+        &[7, 10, 5, 6, 11, 12],
+        &[1, 2, 7, 8, 2, 6],
+        &[3, 4, 2, 14, 31, 18],
+        &[2, 6, 11, 22, 9, 10],
     ];
-    let mut images = images_of(&rt, rt.alloc(), &named)?;
+    let mut images = attached(rt.alloc(), &named)?;
     for held in &[
         [Some(0), Some(1), Some(2), Some(3)],
         [Some(0), NO, Some(2), Some(3)],
@@ -148,12 +145,12 @@ fn two_parities(rt: HostRuntime) -> Result<(), Fail> {
 // The ninth cell of three rows has no second one.
 #[test]
 fn two_copies(rt: HostRuntime) -> Result<(), Fail> {
-    let named: [(&str, &[u8]); 3] = [
-        ("a", &[1, 2, 3, 4, 7, 8]),
-        ("b", &[1, 2, 5, 6, 7, 8]),
-        ("c", &[3, 4, 5, 6, 99, 99]),
+    let named: [&[u8]; 3] = [
+        &[1, 2, 3, 4, 7, 8],
+        &[1, 2, 5, 6, 7, 8],
+        &[3, 4, 5, 6, 99, 99],
     ];
-    let mut images = images_of(&rt, rt.alloc(), &named)?;
+    let mut images = attached(rt.alloc(), &named)?;
     mirror_gives(&rt, &mut images, b"near2:2:0:0,1,2")?;
     mirror_gives(&rt, &mut images, b"near2:2:0:-,1,2")?;
     mirror_gives(&rt, &mut images, b"near2:2:0:0,-,2")?;

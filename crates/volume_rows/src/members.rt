@@ -1,7 +1,7 @@
 //! Members that were worked out by hand, over images in memory.
 ghost use Rattle.std.specs.Prelude.{◌≡◌, ◌≤◌, IsTrue, None, slice_index_or};
 
-use crate::objects::{Looker, NO, are_sectors, images_of, serve, set_of, sink_of, two_of_ones};
+use crate::objects::{Looker, NO, are_sectors, fails, serve, set_of, sink_of, two_of_ones};
 use image_source::{MemImages, MemSink};
 use member_rebuild::rebuild;
 use outside::{Images, Sink};
@@ -9,6 +9,7 @@ use raid_params::{Geometry, Level, Pattern, Syndrome};
 use std::alloc::Global;
 use std::process::Abort;
 use std::test::Fail;
+use test_objects::attached;
 use virtual_volume::VolumeFault;
 
 // Whether slot 0 is there, and empty.
@@ -54,49 +55,25 @@ fn three<R: Abort>(rt: &R) -> Geometry {
 }
 
 // Two images of two sectors each: 3 and 4, 2 and 6.
-fn two_images<R: Abort>(rt: &R, alloc: Global) -> Result<MemImages, Fail> {
-    images_of(rt, alloc, &[("a", &[3, 4]), ("b", &[2, 6])])
-}
+const TWO: &[&[u8]] = &[&[3, 4], &[2, 6]];
 
 // 3 + 2 = 1 and 4 + 6 = 2, bit by bit.
 #[test]
 fn first_member(rt: HostRuntime) -> Result<(), Fail> {
-    let mut images = two_images(&rt, rt.alloc())?;
+    let mut images = attached(rt.alloc(), TWO)?;
     gives(&rt, rt.alloc(), &mut images, 2, &three(&rt))
 }
 
-// Two images are attached by the first two calls.
-fn two_that_fail<R: Abort>(rt: &R, alloc: Global) -> Result<MemImages, Fail> {
-    let mut images = two_images(rt, alloc)?;
-    images.fail_call(4)?;
-    Ok(images)
-}
-
-// Writes the member over the two images.
-fn write_first<R: Abort>(
-    rt: &R,
-    alloc: Global,
-    images: &mut MemImages,
-    sink: &mut MemSink,
-) -> Result<(), VolumeFault> {
-    write(rt, alloc, images, 2, &three(rt), 2, sink)
-}
-
-// First the images fail, and then the sink.
-fn look_at_faults<R: Abort>(rt: &R, alloc: Global, images: &mut MemImages, sink: &mut MemSink) {
-    let cut = write_first(rt, alloc, images, sink);
-    assert!(rt; matches!(&cut, Err(VolumeFault::ReadFault)));
-    assert!(rt; sink.bytes().is_empty());
-    let cut = write_first(rt, alloc, images, sink);
-    assert!(rt; matches!(&cut, Err(VolumeFault::WriteFault)));
-    assert!(rt; sink.bytes() == [1; 100].as_slice());
-}
-
+// Writes the member over the two images, once they and once the sink fails. Two images are attached by the first two calls.
 #[test]
 fn faults(rt: HostRuntime) -> Result<(), Fail> {
-    let mut images = two_that_fail(&rt, rt.alloc())?;
+    let mut images = attached(rt.alloc(), TWO)?;
+    images.fail_call(4)?;
     let mut sink = sink_of(rt.alloc(), 2048, 1, 100)?;
-    look_at_faults(&rt, rt.alloc(), &mut images, &mut sink);
+    let cut = write(&rt, rt.alloc(), &mut images, 2, &three(&rt), 2, &mut sink);
+    fails(&rt, &cut, true, &sink);
+    let cut = write(&rt, rt.alloc(), &mut images, 2, &three(&rt), 2, &mut sink);
+    fails(&rt, &cut, false, &sink);
     Ok(())
 }
 
@@ -113,28 +90,19 @@ fn without_p<R: Abort>(rt: &R) -> Geometry {
     )
 }
 
-// The two images, and one of Q after them. Three images are attached by the first three calls.
-fn three_that_fail<R: Abort>(rt: &R, alloc: Global) -> Result<MemImages, Fail> {
-    let mut images = images_of(
-        rt,
-        alloc,
-        &[("a", &[3, 4]), ("b", &[2, 6]), ("q", &[0xAA, 0xAA])],
-    )?;
-    images.fail_call(6)?;
-    Ok(images)
-}
-
-// P is found by the data alone: the member of each data slot is read by one call. A third call, for Q, would fail.
+// P is found by the data alone: the member of each data slot is read by one call. A third call, for Q, whose image comes after the two,
+// would fail. Three images are attached by the first three calls.
 #[test]
 fn q_is_not_read_for_p(rt: HostRuntime) -> Result<(), Fail> {
-    let mut images = three_that_fail(&rt, rt.alloc())?;
+    let mut images = attached(rt.alloc(), &[&[3, 4], &[2, 6], &[0xAA, 0xAA]])?;
+    images.fail_call(6)?;
     gives(&rt, rt.alloc(), &mut images, 3, &without_p(&rt))
 }
 
 // 700 sectors are two blocks and a short one.
 #[test]
 fn whole_sectors_are_put(rt: HostRuntime) -> Result<(), Fail> {
-    let mut images = two_of_ones(&rt, rt.alloc(), 358_400)?;
+    let mut images = two_of_ones(rt.alloc(), 358_400)?;
     let mut sink = Looker::new();
     let geo = three(&rt);
     assert!(rt; write(&rt, rt.alloc(), &mut images, 2, &geo, 700, &mut sink).is_ok());

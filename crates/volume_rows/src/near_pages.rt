@@ -1,9 +1,8 @@
 //! Pages of mirrors that were worked out by hand, over images in memory.
 ghost use Rattle.near_search.specs.Asks.{HasImages, IsNearAsk};
 
-use crate::objects::{all_reach, images_of};
+use crate::objects::all_reach;
 use arrayvec::ArrayVec;
-use image_source::MemImages;
 use near_mirror::{CopyLayout, Copying, FEWEST_COPIES, MOST_COPIES, near_line};
 use near_search::{NearAsk, NearFault, NearPage, near_page};
 use outside::Images;
@@ -11,6 +10,7 @@ use raid_params::{MOST, is_chunk};
 use std::alloc::Global;
 use std::process::Abort;
 use std::test::Fail;
+use test_objects::attached;
 
 /// Two copies of a layout.
 fn two(copying: Copying) -> CopyLayout {
@@ -51,20 +51,6 @@ fn serve_ask<R: Abort, I: Images>(rt: &R, images: &I, count: u8, ask: &NearAsk)
     assert!(rt; all_reach(images, count, ask.end));
 }
 
-/// The page from rank 0 on, of at most 100 lines.
-fn first_page<R: Abort>(
-    rt: &R,
-    alloc: Global,
-    images: &mut MemImages,
-    layout: CopyLayout,
-    count: u8,
-    window: u64,
-) -> Result<NearPage, NearFault> {
-    let ask = ask_of(rt, layout, count, window);
-    serve_ask(rt, images, count, &ask);
-    near_page(alloc, images, &ask, 0, 100, u64::MAX)
-}
-
 /// Whether the page has lines of these ranks, and comes to the end of all `total` ranks.
 fn has_ranks(page: &NearPage, ranks: &[u64], total: u64) -> bool {
     let lines = page.lines.as_slice();
@@ -77,65 +63,74 @@ fn has_ranks(page: &NearPage, ranks: &[u64], total: u64) -> bool {
         && page.total == total
 }
 
-// Each pair of slots has one of the two pairs of images, in either order.
+/// Pages of mirrors with a member for each image, of two sectors: how chunks are copied twice, the sectors of the images, how many rows
+/// are compared, and the ranks of those that pass.
+type Page = (Copying, &'static [&'static [u8]], u64, &'static [u64]);
+
+/// Three members, of which each holds the chunk of the slot before in its second row.
+const THREE: &[&[u8]] = &[&[1, 3], &[2, 1], &[3, 2]];
+
+static PAGES: [Page; 8] = [
+    // each pair of slots has one of the two pairs of images, in either order
+    (
+        Copying::Near,
+        &[&[1, 2], &[1, 2], &[3, 4], &[3, 4]],
+        2,
+        &[0, 1, 6, 7, 16, 17, 22, 23],
+    ),
+    // the second chunk stands at the end of the first row and at the beginning of the second
+    (Copying::Near, &[&[5, 6], &[5, 7], &[6, 7]], 2, &[0]),
+    // a window of one row leaves out the chunk whose second copy stands in the second row, and with it what is torn
+    (Copying::Near, &[&[5, 6], &[5, 7], &[0, 7]], 1, &[0, 2]),
+    (Copying::Near, &[&[5, 6], &[5, 7], &[0, 7]], 2, &[]),
+    // the second row of a member is its second part, so that each slot can be the first one
+    (Copying::Far, THREE, 2, &[0, 3, 4]),
+    // a window of one row has the first sector of each part, and so both copies of each far chunk; of offset chunks it has one
+    (Copying::Far, THREE, 1, &[0, 3, 4]),
+    (Copying::Offset, THREE, 1, &[0, 1, 2, 3, 4, 5]),
+    (Copying::Offset, THREE, 2, &[0, 3, 4]),
+];
+
+/// Makes a page from rank 0 on, of at most 100 lines.
+fn page_of<R: Abort>(rt: &R, alloc: Global, page: &Page) -> Result<NearPage, Fail> {
+    let (copying, each, window, _) = *page;
+    let mut images = attached(alloc, each)?;
+    assert!(rt; each.len() <= MOST);
+    let count = each.len() as u8;
+    let ask = ask_of(rt, two(copying), count, window);
+    serve_ask(rt, &images, count, &ask);
+    Ok(near_page(alloc, &mut images, &ask, 0, 100, u64::MAX).map_err(|_| "a page")?)
+}
+
 #[test]
-fn two_pairs(rt: HostRuntime) -> Result<(), Fail> {
-    let mut images = images_of(
-        &rt,
-        rt.alloc(),
-        &[
-            ("a", &[1, 2]),
-            ("b", &[1, 2]),
-            ("c", &[3, 4]),
-            ("d", &[3, 4]),
-        ],
-    )?;
-    let page = first_page(&rt, rt.alloc(), &mut images, two(Copying::Near), 4, 2).map_err(
-        |_| "a page",
-    )?;
-    assert!(rt; has_ranks(&page, &[0, 1, 6, 7, 16, 17, 22, 23], 24));
-    let first = page.lines.as_slice().first().ok_or("a line")?;
-    let text = near_line(rt.alloc(), first.rank, &first.set)?;
-    assert!(rt; text.as_slice() == b"0 near2:1:0:0,1,2,3\n".as_slice());
+fn mirrors_that_pass(rt: HostRuntime) -> Result<(), Fail> {
+    for page in &PAGES {
+        let found = page_of(&rt, rt.alloc(), page)?;
+        let total = if page.1.len() == 4 { 24 } else { 6 };
+        assert!(rt; has_ranks(&found, page.3, total), "{}", page.2);
+    }
     Ok(())
 }
 
-// The second chunk stands at the end of the first row and at the beginning of the second.
-#[test]
-fn three_members(rt: HostRuntime) -> Result<(), Fail> {
-    let mut images = images_of(
-        &rt,
-        rt.alloc(),
-        &[("a", &[5, 6]), ("b", &[5, 7]), ("c", &[6, 7])],
-    )?;
-    let page = first_page(&rt, rt.alloc(), &mut images, two(Copying::Near), 3, 2).map_err(
-        |_| "a page",
-    )?;
-    assert!(rt; has_ranks(&page, &[0], 6));
-    Ok(())
+/// Whether the first line of a page has this text.
+fn begins<R: Abort>(rt: &R, alloc: Global, page: &Page, want: &[u8]) -> Result<bool, Fail> {
+    let found = page_of(rt, alloc, page)?;
+    let first = found.lines.as_slice().first().ok_or("a line")?;
+    let text = near_line(alloc, first.rank, &first.set)?;
+    Ok(text.as_slice() == want)
 }
 
-// A window of one row leaves out the chunk whose second copy stands in the second row, and with it what is torn.
 #[test]
-fn a_window_between_the_copies(rt: HostRuntime) -> Result<(), Fail> {
-    let named: [(&str, &[u8]); 3] = [("a", &[5, 6]), ("b", &[5, 7]), ("c", &[0, 7])];
-    let mut images = images_of(&rt, rt.alloc(), &named)?;
-    let short = first_page(&rt, rt.alloc(), &mut images, two(Copying::Near), 3, 1).map_err(
-        |_| "a page",
-    )?;
-    assert!(rt; has_ranks(&short, &[0, 2], 6));
-    let long = first_page(&rt, rt.alloc(), &mut images, two(Copying::Near), 3, 2).map_err(
-        |_| "a page",
-    )?;
-    assert!(rt; has_ranks(&long, &[], 6));
+fn lines_of_mirrors(rt: HostRuntime) -> Result<(), Fail> {
+    assert!(rt; begins(&rt, rt.alloc(), &PAGES[0], b"0 near2:1:0:0,1,2,3\n")?);
+    assert!(rt; begins(&rt, rt.alloc(), &PAGES[4], b"0 far2:1:0:0,1,2\n")?);
     Ok(())
 }
 
 // Four images are attached by the first four calls, and the second reading fails.
 #[test]
 fn a_read_fault(rt: HostRuntime) -> Result<(), Fail> {
-    let named: [(&str, &[u8]); 4] = [("a", &[1]), ("b", &[1]), ("c", &[3]), ("d", &[3])];
-    let mut images = images_of(&rt, rt.alloc(), &named)?;
+    let mut images = attached(rt.alloc(), &[&[1], &[1], &[3], &[3]])?;
     images.fail_call(6)?;
     let mut ask = ask_of(&rt, two(Copying::Near), 4, 1);
     ask.end = 1;
@@ -145,55 +140,12 @@ fn a_read_fault(rt: HostRuntime) -> Result<(), Fail> {
     Ok(())
 }
 
-// The second row of a member is its second part: it holds the chunk of the slot before, so that each slot can be the first one.
-#[test]
-fn three_far_members(rt: HostRuntime) -> Result<(), Fail> {
-    let named: [(&str, &[u8]); 3] = [("a", &[1, 3]), ("b", &[2, 1]), ("c", &[3, 2])];
-    let mut images = images_of(&rt, rt.alloc(), &named)?;
-    let page = first_page(&rt, rt.alloc(), &mut images, two(Copying::Far), 3, 2).map_err(
-        |_| "a page",
-    )?;
-    assert!(rt; has_ranks(&page, &[0, 3, 4], 6));
-    let first = page.lines.as_slice().first().ok_or("a line")?;
-    let text = near_line(rt.alloc(), first.rank, &first.set)?;
-    assert!(rt; text.as_slice() == b"0 far2:1:0:0,1,2\n".as_slice());
-    Ok(())
-}
-
-// A window of one row has the first sector of each part, and so both copies of each far chunk; of offset chunks it has one.
-#[test]
-fn a_window_of_parts(rt: HostRuntime) -> Result<(), Fail> {
-    let named: [(&str, &[u8]); 3] = [("a", &[1, 3]), ("b", &[2, 1]), ("c", &[3, 2])];
-    let mut images = images_of(&rt, rt.alloc(), &named)?;
-    let far = first_page(&rt, rt.alloc(), &mut images, two(Copying::Far), 3, 1).map_err(
-        |_| "a page",
-    )?;
-    assert!(rt; has_ranks(&far, &[0, 3, 4], 6));
-    let offset = first_page(&rt, rt.alloc(), &mut images, two(Copying::Offset), 3, 1).map_err(
-        |_| "a page",
-    )?;
-    assert!(rt; has_ranks(&offset, &[0, 1, 2, 3, 4, 5], 6));
-    let both = first_page(&rt, rt.alloc(), &mut images, two(Copying::Offset), 3, 2).map_err(
-        |_| "a page",
-    )?;
-    assert!(rt; has_ranks(&both, &[0, 3, 4], 6));
-    Ok(())
-}
-
 // Three copies of four chunks in three rows of four members: chunk 1 begins at the end of the first row, and chunk 2 in the middle of the
 // second.
 #[test]
 fn three_copies(rt: HostRuntime) -> Result<(), Fail> {
-    let mut images = images_of(
-        &rt,
-        rt.alloc(),
-        &[
-            ("a", &[1, 2, 3]),
-            ("b", &[1, 2, 4]),
-            ("c", &[1, 3, 4]),
-            ("d", &[2, 3, 4]),
-        ],
-    )?;
+    let each: [&[u8]; 4] = [&[1, 2, 3], &[1, 2, 4], &[1, 3, 4], &[2, 3, 4]];
+    let mut images = attached(rt.alloc(), &each)?;
     let layout = CopyLayout {
         copying: Copying::Near,
         copies: 3,
@@ -210,8 +162,7 @@ fn three_copies(rt: HostRuntime) -> Result<(), Fail> {
 // other, which hold the two images that have a chunk in common in the second row.
 #[test]
 fn two_of_five_lost(rt: HostRuntime) -> Result<(), Fail> {
-    let named: [(&str, &[u8]); 3] = [("a", &[1, 4]), ("b", &[2, 5]), ("c", &[3, 5])];
-    let mut images = images_of(&rt, rt.alloc(), &named)?;
+    let mut images = attached(rt.alloc(), &[&[1, 4], &[2, 5], &[3, 5]])?;
     let mut ask = ask_of(&rt, two(Copying::Near), 5, 2);
     ask.missing = 2;
     serve_ask(&rt, &images, 3, &ask);

@@ -13,6 +13,8 @@ use raid_params::{Geometry, Head, Level, Pattern, Slots, Syndrome, Wide};
 use std::alloc::Global;
 use std::process::Abort;
 use std::test::Fail;
+use test_objects::join;
+use virtual_volume::VolumeFault;
 
 /// An empty slot.
 pub const NO: Option<u8> = None;
@@ -46,15 +48,6 @@ pub fn set_of<R: Abort>(
     Geometry { head, slots }
 }
 
-/// A sector of each byte, one after the other.
-fn sectors(alloc: Global, bytes: &[u8]) -> Result<Vec<u8>, Fail> {
-    let mut all = Vec::new(alloc);
-    for byte in bytes {
-        all.extend_from_slice(&[*byte; SECTOR])?;
-    }
-    Ok(all)
-}
-
 /// Whether these are a sector of each byte, one after the other.
 pub fn are_sectors(bytes: &[u8], want: &[u8]) -> bool {
     if bytes.len() % SECTOR != 0 || bytes.len() / SECTOR != want.len() {
@@ -78,46 +71,24 @@ pub fn sink_of(alloc: Global, room: usize, call: u64, taken: usize) -> Result<Me
     Ok(sink)
 }
 
-/// Adds an image beside at most 16, and attaches it.
-#[tactic(auto, using(crate::proofs::Joined::joined, crate::proofs::Joined::few))]
-fn join<R: Abort>(rt: &R, images: &mut MemImages, name: &str, bytes: &[u8]) -> Result<(), Fail> {
-    assert!(rt; images.length(16).is_none());
-    images.add(name, bytes)?;
-    images.attach(name)?;
-    Ok(())
-}
-
-/// The same, of a sector of each byte.
-fn join_sectors<R: Abort>(
-    rt: &R,
-    alloc: Global,
-    images: &mut MemImages,
-    name: &str,
-    each: &[u8],
-) -> Result<(), Fail> {
-    let bytes = sectors(alloc, each)?;
-    join(rt, images, name, &bytes)
-}
-
-/// Images by their names, attached in this order, of a sector of each byte.
-pub fn images_of<R: Abort>(
-    rt: &R,
-    alloc: Global,
-    named: &[(&str, &[u8])],
-) -> Result<MemImages, Fail> {
-    let mut images = MemImages::new(alloc)?;
-    for one in named {
-        join_sectors(rt, alloc, &mut images, one.0, one.1)?;
+/// Looks whether a write was cut off by the images before anything was put, or else by the sink, which took 100 bytes of 1.
+pub fn fails<R: Abort>(rt: &R, cut: &Result<(), VolumeFault>, by_images: bool, sink: &MemSink) {
+    let ones: &[u8] = &[1; 100];
+    if by_images {
+        assert!(rt; matches!(cut, Err(VolumeFault::ReadFault)));
+        assert!(rt; sink.bytes().is_empty());
+    } else {
+        assert!(rt; matches!(cut, Err(VolumeFault::WriteFault)));
+        assert!(rt; sink.bytes() == ones);
     }
-    Ok(images)
 }
 
 /// Two images of `bytes` bytes that are 1.
-pub fn two_of_ones<R: Abort>(rt: &R, alloc: Global, bytes: usize) -> Result<MemImages, Fail> {
+pub fn two_of_ones(alloc: Global, bytes: usize) -> Result<MemImages, Fail> {
     let ones = vec![in alloc; 1u8; bytes]?;
     let mut images = MemImages::new(alloc)?;
-    join(rt, &mut images, "a", &ones)?;
-    join(rt, &mut images, "b", &ones)?;
+    join(&mut images, "a", &ones)?;
+    join(&mut images, "b", &ones)?;
     Ok(images)
 }
 
@@ -163,8 +134,8 @@ fn is_near<I: Images>(images: &I, image: u32) -> bool
     }
 }
 
-/// Looks whether `count` images are attached.
-pub fn attached<R: Abort, I: Images>(rt: &R, images: &I, count: u8)
+/// Looks whether `count` images are attached, of which none is too long.
+pub fn near<R: Abort, I: Images>(rt: &R, images: &I, count: u8)
     ensures { (length (I.seen images.now).attached ≡ count) × All (λ a. a.sectors < FAR) (I.seen images.now).attached }
 {
     assert!(rt; are_attached(images, count));

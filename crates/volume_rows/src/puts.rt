@@ -9,14 +9,12 @@ use std::process::Abort;
 use std::test::Fail;
 use virtual_volume::VolumeFault;
 
-// Writes the volume of two images of `bytes` ones, in chunks of `chunk` sectors up to `end`. It gives what cut that
-// off.
+// Writes the volume of two images of `end` sectors of ones, in chunks of `chunk` sectors. It gives what cut that off.
 fn striped<R: Abort, K: Sink>(
     rt: &R,
     alloc: Global,
-    bytes: usize,
     chunk: u64,
-    end: u64,
+    end: u32,
     sink: &mut K,
 ) -> Result<Option<VolumeFault>, Fail> {
     let held = [Some(0), Some(1)];
@@ -28,8 +26,8 @@ fn striped<R: Abort, K: Sink>(
         chunk,
         &held,
     );
-    let mut images = two_of_ones(rt, alloc, bytes)?;
-    Ok(write(rt, alloc, &mut images, 2, &geo, end, sink).err())
+    let mut images = two_of_ones(alloc, SECTOR * end as usize)?;
+    Ok(write(rt, alloc, &mut images, 2, &geo, end as u64, sink).err())
 }
 
 // Looks whether the sink got so many ones, and no other byte.
@@ -38,43 +36,30 @@ fn look<R: Abort>(rt: &R, sink: &MemSink, count: usize) {
     assert!(rt; repeat(sink.bytes(), 1));
 }
 
-// A chunk of 512 sectors goes to the sink in one call, and is its first.
-#[test]
-fn a_large_chunk_is_put_at_once(rt: HostRuntime) -> Result<(), Fail> {
-    let mut sink = sink_of(rt.alloc(), 524_288, 1, 100)?;
-    let cut = striped(&rt, rt.alloc(), 262_144, 512, 512, &mut sink)?;
-    assert!(rt; matches!(cut, Some(VolumeFault::WriteFault)));
-    look(&rt, &sink, 100);
-    Ok(())
-}
+/// A volume of images of `end` sectors in chunks of `chunk`, to a sink whose call number `call` fails once it took `taken` bytes; whether
+/// the volume is cut off by that, and how many bytes the sink has then.
+type Cut = (u64, u32, u64, usize, bool, usize);
 
-// Two chunks of 256 sectors are two calls, and there is no third.
-#[test]
-fn each_large_chunk_is_put_at_once(rt: HostRuntime) -> Result<(), Fail> {
-    let mut sink = sink_of(rt.alloc(), 262_144, 3, 100)?;
-    let cut = striped(&rt, rt.alloc(), 262_144, 256, 256, &mut sink)?;
-    assert!(rt; cut.is_none());
-    look(&rt, &sink, 262_144);
-    Ok(())
-}
+static CUTS: [Cut; 4] = [
+    // a chunk of 512 sectors goes to the sink in one call, and is its first
+    (512, 512, 1, 100, true, 100),
+    // two chunks of 256 sectors are two calls, and there is no third
+    (256, 256, 3, 100, false, 262_144),
+    // two chunks of 64 sectors go to the sink in two calls
+    (64, 64, 2, 0, true, 32_768),
+    // four chunks of 32 sectors wait, and go in one call
+    (32, 64, 2, 0, false, 65_536),
+];
 
-// Two chunks of 64 sectors go to the sink in two calls.
 #[test]
-fn a_chunk_of_32_kib_is_put_at_once(rt: HostRuntime) -> Result<(), Fail> {
-    let mut sink = sink_of(rt.alloc(), 65_536, 2, 0)?;
-    let cut = striped(&rt, rt.alloc(), 32_768, 64, 64, &mut sink)?;
-    assert!(rt; matches!(cut, Some(VolumeFault::WriteFault)));
-    look(&rt, &sink, 32_768);
-    Ok(())
-}
-
-// Four chunks of 32 sectors wait, and go in one call.
-#[test]
-fn chunks_of_16_kib_wait(rt: HostRuntime) -> Result<(), Fail> {
-    let mut sink = sink_of(rt.alloc(), 65_536, 2, 0)?;
-    let cut = striped(&rt, rt.alloc(), 32_768, 32, 64, &mut sink)?;
-    assert!(rt; cut.is_none());
-    look(&rt, &sink, 65_536);
+fn large_chunks_are_put_at_once(rt: HostRuntime) -> Result<(), Fail> {
+    for (chunk, end, call, taken, is_cut, count) in &CUTS {
+        let mut sink = sink_of(rt.alloc(), 524_288, *call, *taken)?;
+        let cut = striped(&rt, rt.alloc(), *chunk, *end, &mut sink)?;
+        assert_eq!(rt; matches!(cut, Some(VolumeFault::WriteFault)), *is_cut);
+        assert_eq!(rt; cut.is_some(), *is_cut);
+        look(&rt, &sink, *count);
+    }
     Ok(())
 }
 
@@ -87,14 +72,7 @@ fn in_whole_sectors<R: Abort>(
     sectors: u32,
 ) -> Result<(), Fail> {
     let mut sink = Looker::new();
-    let cut = striped(
-        rt,
-        alloc,
-        SECTOR * end as usize,
-        chunk,
-        end as u64,
-        &mut sink,
-    )?;
+    let cut = striped(rt, alloc, chunk, end, &mut sink)?;
     assert!(rt; cut.is_none());
     assert!(rt; sink.bytes == SECTOR * sectors as usize);
     assert!(rt; sink.whole && sink.ones);
@@ -105,10 +83,15 @@ fn in_whole_sectors<R: Abort>(
 // hold 175 chunks of 4, 10 of 64, 2 of 256 and 1 of 512.
 #[test]
 fn whole_sectors_are_put(rt: HostRuntime) -> Result<(), Fail> {
-    in_whole_sectors(&rt, rt.alloc(), 4, 700, 1400)?;
-    in_whole_sectors(&rt, rt.alloc(), 64, 700, 1280)?;
-    in_whole_sectors(&rt, rt.alloc(), 256, 700, 1024)?;
-    in_whole_sectors(&rt, rt.alloc(), 512, 700, 1024)
+    for (chunk, end, sectors) in [
+        (4, 700, 1400),
+        (64, 700, 1280),
+        (256, 700, 1024),
+        (512, 700, 1024),
+    ] {
+        in_whole_sectors(&rt, rt.alloc(), chunk, end, sectors)?;
+    }
+    Ok(())
 }
 
 // The largest chunk, of 16 MiB.

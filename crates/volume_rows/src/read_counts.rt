@@ -1,20 +1,12 @@
 //! How many sectors of each image are read for a volume. The counts were worked out by hand.
-use crate::objects::{NO, are_sectors, images_of, set_of};
+use crate::objects::{NO, are_sectors, set_of};
 use crate::volumes::write;
 use image_source::MemSink;
 use raid_params::{Level, Pattern, Syndrome};
 use std::alloc::Global;
 use std::process::Abort;
 use std::test::Fail;
-use test_objects::Counted;
-
-// Four images of four sectors of zeros.
-fn four_images<R: Abort>(rt: &R, alloc: Global) -> Result<Counted, Fail> {
-    let zeros = [0; 4];
-    let blank = ("zeros", zeros.as_slice());
-    let images = images_of(rt, alloc, &[blank, blank, blank, blank])?;
-    Ok(Counted::new(images))
-}
+use test_objects::{Counted, attached};
 
 // Looks how many sectors are read of each of the four images for the volume of eight sectors, of a set of four
 // members at level 6, in chunks of a sector.
@@ -26,7 +18,7 @@ fn look<R: Abort>(
     reads: [u64; 4],
 ) -> Result<(), Fail> {
     let geo = set_of(rt, Level::Raid6, pattern, Syndrome::AfterQ, 1, &held);
-    let mut counted = four_images(rt, alloc)?;
+    let mut counted = Counted::new(attached(alloc, &[&[0; 4], &[0; 4], &[0; 4], &[0; 4]])?);
     let mut sink = MemSink::new(alloc, 4096)?;
     assert!(rt; write(rt, alloc, &mut counted, 4, &geo, 4, &mut sink).is_ok());
     assert!(rt; are_sectors(sink.bytes(), &[0; 8]));

@@ -2,7 +2,7 @@
 ghost use Rattle.image_source.specs.Bytes.{shelf_tells};
 ghost use Rattle.image_source.specs.Memory.{seen_of};
 
-use crate::objects::{are_sectors, images_of, repeat, serve_damaged, set_of, two_of_ones};
+use crate::objects::{are_sectors, repeat, serve_damaged, set_of, two_of_ones};
 use arrayvec::ArrayVec;
 use gates::{Gate, OpenGate};
 use image_source::{MemImages, MemSink};
@@ -13,7 +13,7 @@ use std::alloc::Global;
 use std::process::Abort;
 use std::test::Fail;
 use std::thread::Threads;
-use test_objects::Meeting;
+use test_objects::{Meeting, attached};
 
 /// Sector 0 of image 0 was not read. A comment, zeros in front of hexadecimal digits and a last line that has no end are in
 /// it.
@@ -83,7 +83,7 @@ fn three_give<R: Threads + Sync + Abort>(
         geo: set_of(rt, Level::Raid5, Pattern::Ls, Syndrome::NoQ, 1, &held),
         bases: ArrayVec::new(),
     };
-    let images = images_of(rt, alloc, &[("a", &[1, 2]), ("b", &[3, 4]), ("c", &[2, 6])])?;
+    let images = attached(alloc, &[&[1, 2], &[3, 4], &[2, 6]])?;
     let mut images = Strict {
         images,
         bad,
@@ -99,26 +99,21 @@ fn three_give<R: Threads + Sync + Abort>(
     Ok(())
 }
 
-#[test]
-fn nothing_is_bad(rt: HostRuntime) -> Result<(), Fail> {
-    three_give(&rt, rt.alloc(), 0, b"", &[1, 3, 6, 2], b"good 4 of 4\n")
-}
+/// How many images have a bad sector 0, the text of maps, what is salvaged, and what is said to be lost.
+type Salvaged = (u32, &'static [u8], &'static [u8], &'static [u8]);
+
+static ROWS: [Salvaged; 3] = [
+    (0, b"", &[1, 3, 6, 2], b"good 4 of 4\n"),
+    (1, FIRST, &[1, 3, 6, 2], b"good 4 of 4\n"),
+    (2, BOTH, &[0, 0, 6, 2], b"lost 0 2\ngood 2 of 4\n"),
+];
 
 #[test]
-fn one_sector_is_bad(rt: HostRuntime) -> Result<(), Fail> {
-    three_give(&rt, rt.alloc(), 1, FIRST, &[1, 3, 6, 2], b"good 4 of 4\n")
-}
-
-#[test]
-fn a_row_is_lost(rt: HostRuntime) -> Result<(), Fail> {
-    three_give(
-        &rt,
-        rt.alloc(),
-        2,
-        BOTH,
-        &[0, 0, 6, 2],
-        b"lost 0 2\ngood 2 of 4\n",
-    )
+fn sectors_that_are_bad(rt: HostRuntime) -> Result<(), Fail> {
+    for (bad, text, want, lost) in &ROWS {
+        three_give(&rt, rt.alloc(), *bad, text, want, lost)?;
+    }
+    Ok(())
 }
 
 // Two members of 64 sectors of ones: the volume is one block of 128 sectors, in two pieces, each of which passes the gate once.
@@ -136,7 +131,7 @@ fn pieces_meet(rt: HostRuntime) -> Result<(), Fail> {
         ),
         bases: ArrayVec::new(),
     };
-    let mut images = two_of_ones(&rt, rt.alloc(), 64 * SECTOR)?;
+    let mut images = two_of_ones(rt.alloc(), 64 * SECTOR)?;
     let sink = salvaged(&rt, rt.alloc(), &mut images, 2, &set, 64, b"", &gate)?;
     assert_eq!(rt; <(u64, u64, u64, bool)>::from(&gate), (1, 1, 0, false));
     assert!(rt; sink.bytes().len() == 128 * SECTOR && repeat(sink.bytes(), 1));

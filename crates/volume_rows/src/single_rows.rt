@@ -25,30 +25,41 @@ fn holds<R: Abort>(rt: &R, exponents: [u8; 2], lost: [bool; 4], bytes: [u8; 4]) 
     row_holds(&four_cells(rt, exponents, lost), &four_sectors(bytes))
 }
 
-#[test]
-fn four_members(rt: HostRuntime) {
-    let lost = [false; 4];
-    assert!(rt; holds(&rt, NEAR, lost, [0x1C, 0x01, 0x80, 0x81]));
-    assert!(rt; !holds(&rt, NEAR, lost, [0x1D, 0x01, 0x80, 0x81]));
-    assert!(rt; !holds(&rt, NEAR, lost, [0x1C, 0x01, 0x80, 0x80]));
-    assert!(rt; !holds(&rt, [0, 2], lost, [0x1C, 0x01, 0x80, 0x81]));
-    assert!(rt; holds(&rt, [0, 2], lost, [0x3B, 0x01, 0x80, 0x81]));
-}
+/// The exponents of the data blocks, which places are lost, the bytes of a row, and whether it is sound. AA stands where a member is
+/// missing.
+type Sound = ([u8; 2], [bool; 4], [u8; 4], bool);
 
-// AA stands where a member is missing.
+/// No place, each alone, and both data blocks.
+const NONE: [bool; 4] = [false; 4];
+
+const Q: [bool; 4] = [true, false, false, false];
+
+const FIRST: [bool; 4] = [false, true, false, false];
+
+const P: [bool; 4] = [false, false, false, true];
+
+const DATA: [bool; 4] = [false, true, true, false];
+
+static SOUND: [Sound; 12] = [
+    (NEAR, NONE, [0x1C, 0x01, 0x80, 0x81], true),
+    (NEAR, NONE, [0x1D, 0x01, 0x80, 0x81], false),
+    (NEAR, NONE, [0x1C, 0x01, 0x80, 0x80], false),
+    ([0, 2], NONE, [0x1C, 0x01, 0x80, 0x81], false),
+    ([0, 2], NONE, [0x3B, 0x01, 0x80, 0x81], true),
+    (NEAR, FIRST, [0x1C, 0xAA, 0x80, 0x81], true),
+    (NEAR, FIRST, [0x1D, 0xAA, 0x80, 0x81], false),
+    (NEAR, P, [0x1C, 0x01, 0x80, 0xAA], true),
+    (NEAR, P, [0x1D, 0x01, 0x80, 0xAA], false),
+    (NEAR, Q, [0xAA, 0x01, 0x80, 0x81], true),
+    (NEAR, Q, [0xAA, 0x01, 0x80, 0x80], false),
+    (NEAR, DATA, [0x12, 0xAA, 0xAA, 0x34], true),
+];
+
 #[test]
-fn missing_members(rt: HostRuntime) {
-    let first = [false, true, false, false];
-    assert!(rt; holds(&rt, NEAR, first, [0x1C, 0xAA, 0x80, 0x81]));
-    assert!(rt; !holds(&rt, NEAR, first, [0x1D, 0xAA, 0x80, 0x81]));
-    let p = [false, false, false, true];
-    assert!(rt; holds(&rt, NEAR, p, [0x1C, 0x01, 0x80, 0xAA]));
-    assert!(rt; !holds(&rt, NEAR, p, [0x1D, 0x01, 0x80, 0xAA]));
-    let q = [true, false, false, false];
-    assert!(rt; holds(&rt, NEAR, q, [0xAA, 0x01, 0x80, 0x81]));
-    assert!(rt; !holds(&rt, NEAR, q, [0xAA, 0x01, 0x80, 0x80]));
-    let both_data = [false, true, true, false];
-    assert!(rt; holds(&rt, NEAR, both_data, [0x12, 0xAA, 0xAA, 0x34]));
+fn rows_that_are_sound(rt: HostRuntime) {
+    for (exponents, lost, bytes, sound) in &SOUND {
+        assert_eq!(rt; holds(&rt, *exponents, *lost, *bytes), *sound);
+    }
 }
 
 /// The lost sector of a place.
@@ -77,33 +88,61 @@ fn found<R: Abort>(rt: &R, lost: [bool; 4], bytes: [u8; 4], want: [u8; 4]) -> bo
     true
 }
 
-#[test]
-fn lost_members(rt: HostRuntime) {
-    let all = [0x1C, 0x01, 0x80, 0x81];
-    let q_and_first = [true, true, false, false];
-    assert!(rt; found(&rt, q_and_first, [0xAA, 0xAA, 0x80, 0x81], all));
-    let q_and_second = [true, false, true, false];
-    assert!(rt; found(&rt, q_and_second, [0xAA, 0x01, 0xAA, 0x81], all));
-    let q_and_p = [true, false, false, true];
-    assert!(rt; found(&rt, q_and_p, [0xAA, 0x01, 0x80, 0xAA], all));
-    let both_data = [false, true, true, false];
-    assert!(rt; found(&rt, both_data, [0x1C, 0xAA, 0xAA, 0x81], all));
-    let first_and_p = [false, true, false, true];
-    assert!(rt; found(&rt, first_and_p, [0x1C, 0xAA, 0x80, 0xAA], all));
-    let second_and_p = [false, false, true, true];
-    assert!(rt; found(&rt, second_and_p, [0x1C, 0x01, 0xAA, 0xAA], all));
-    assert!(rt; !found(&rt, second_and_p, [0x1C, 0x01, 0xAA, 0xAA], [0; 4]));
-}
+/// Which places are lost, the bytes of a row, those of its lost sectors, and whether these are found.
+type Lost = ([bool; 4], [u8; 4], [u8; 4], bool);
+
+/// The whole row.
+const ALL: [u8; 4] = [0x1C, 0x01, 0x80, 0x81];
 
 // One lost byte is found by one equation, also where the other does not hold.
+static LOST: [Lost; 10] = [
+    (
+        [true, true, false, false],
+        [0xAA, 0xAA, 0x80, 0x81],
+        ALL,
+        true,
+    ),
+    (
+        [true, false, true, false],
+        [0xAA, 0x01, 0xAA, 0x81],
+        ALL,
+        true,
+    ),
+    (
+        [true, false, false, true],
+        [0xAA, 0x01, 0x80, 0xAA],
+        ALL,
+        true,
+    ),
+    (DATA, [0x1C, 0xAA, 0xAA, 0x81], ALL, true),
+    (
+        [false, true, false, true],
+        [0x1C, 0xAA, 0x80, 0xAA],
+        ALL,
+        true,
+    ),
+    (
+        [false, false, true, true],
+        [0x1C, 0x01, 0xAA, 0xAA],
+        ALL,
+        true,
+    ),
+    (
+        [false, false, true, true],
+        [0x1C, 0x01, 0xAA, 0xAA],
+        [0; 4],
+        false,
+    ),
+    (FIRST, [0x1D, 0xAA, 0x80, 0x81], [0, 0x01, 0, 0], true),
+    (P, [0x1D, 0x01, 0x80, 0xAA], [0, 0, 0, 0x81], true),
+    (Q, [0xAA, 0x01, 0x80, 0x80], [0x1C, 0, 0, 0], true),
+];
+
 #[test]
-fn one_lost_member(rt: HostRuntime) {
-    let data = [false, true, false, false];
-    assert!(rt; found(&rt, data, [0x1D, 0xAA, 0x80, 0x81], [0, 0x01, 0, 0]));
-    let p = [false, false, false, true];
-    assert!(rt; found(&rt, p, [0x1D, 0x01, 0x80, 0xAA], [0, 0, 0, 0x81]));
-    let q = [true, false, false, false];
-    assert!(rt; found(&rt, q, [0xAA, 0x01, 0x80, 0x80], [0x1C, 0, 0, 0]));
+fn lost_members(rt: HostRuntime) {
+    for (lost, bytes, want, is_found) in &LOST {
+        assert_eq!(rt; found(&rt, *lost, *bytes, *want), *is_found);
+    }
 }
 
 /// The row with one byte changed.

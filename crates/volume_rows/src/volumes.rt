@@ -1,5 +1,5 @@
 //! Volumes that were worked out by hand, over images in memory.
-use crate::objects::{NO, are_sectors, images_of, repeat, serve, set_of, sink_of};
+use crate::objects::{NO, are_sectors, fails, repeat, serve, set_of, sink_of};
 use address_map::volume_sectors;
 use image_source::{MemImages, MemSink};
 use outside::{Images, Sink};
@@ -7,6 +7,7 @@ use raid_params::{Geometry, Level, Pattern, Syndrome};
 use std::alloc::Global;
 use std::process::Abort;
 use std::test::Fail;
+use test_objects::attached;
 use virtual_volume::{VolumeFault, read_volume, write_volume};
 
 /// Writes the volume, over `count` images.
@@ -67,28 +68,15 @@ fn four<R: Abort>(rt: &R, held: &[Option<u8>]) -> Geometry {
 }
 
 // Images of two sectors each: 1 and 2, 3 and 4, 2 and 6.
-fn three_images<R: Abort>(rt: &R, alloc: Global) -> Result<MemImages, Fail> {
-    images_of(rt, alloc, &[("a", &[1, 2]), ("b", &[3, 4]), ("c", &[2, 6])])
-}
+const THREE: &[&[u8]] = &[&[1, 2], &[3, 4], &[2, 6]];
 
 // Images of one sector each: Q, two data blocks and P.
-fn four_images<R: Abort>(rt: &R, alloc: Global) -> Result<MemImages, Fail> {
-    images_of(
-        rt,
-        alloc,
-        &[
-            ("q", &[0x1C]),
-            ("a", &[0x01]),
-            ("b", &[0x80]),
-            ("p", &[0x81]),
-        ],
-    )
-}
+const FOUR: &[&[u8]] = &[&[0x1C], &[0x01], &[0x80], &[0x81]];
 
 // The second row begins on the third member, and 3 + 2 = 1 and 4 + 6 = 2, bit by bit.
 fn two_rows_with<R: Abort>(rt: &R, alloc: Global, first: Option<u8>) -> Result<(), Fail> {
     let geo = three(rt, first);
-    let mut images = three_images(rt, alloc)?;
+    let mut images = attached(alloc, THREE)?;
     gives(rt, alloc, &mut images, 3, &geo, 2, &[1, 3, 6, 2])?;
     assert!(rt; reads(rt, &mut images, 3, &geo, 2, 3, 2));
     Ok(())
@@ -103,7 +91,7 @@ fn two_rows(rt: HostRuntime) -> Result<(), Fail> {
 // 1 + 80 = 81, and 1 + 2 * 80 = 1C in the field of 256 elements.
 #[test]
 fn two_members_lost(rt: HostRuntime) -> Result<(), Fail> {
-    let mut images = four_images(&rt, rt.alloc())?;
+    let mut images = attached(rt.alloc(), FOUR)?;
     for held in &[
         [Some(0), NO, NO, Some(3)],
         [NO, NO, Some(2), Some(3)],
@@ -116,39 +104,17 @@ fn two_members_lost(rt: HostRuntime) -> Result<(), Fail> {
     Ok(())
 }
 
-// Writes the volume of the three images.
-fn write_three<R: Abort>(
-    rt: &R,
-    alloc: Global,
-    images: &mut MemImages,
-    sink: &mut MemSink,
-) -> Result<(), VolumeFault> {
-    let geo = three(rt, Some(0));
-    write(rt, alloc, images, 3, &geo, 2, sink)
-}
-
-// Three images are attached by the first three calls.
-fn three_that_fail<R: Abort>(rt: &R, alloc: Global) -> Result<MemImages, Fail> {
-    let mut images = three_images(rt, alloc)?;
-    images.fail_call(5)?;
-    Ok(images)
-}
-
-// First the images fail, and then the sink.
-fn look_at_faults<R: Abort>(rt: &R, alloc: Global, images: &mut MemImages, sink: &mut MemSink) {
-    let cut = write_three(rt, alloc, images, sink);
-    assert!(rt; matches!(&cut, Err(VolumeFault::ReadFault)));
-    assert!(rt; sink.bytes().is_empty());
-    let cut = write_three(rt, alloc, images, sink);
-    assert!(rt; matches!(&cut, Err(VolumeFault::WriteFault)));
-    assert!(rt; sink.bytes() == [1; 100].as_slice());
-}
-
+// Writes the volume of the three images, once they and once the sink fails. Three images are attached by the first three calls.
 #[test]
 fn faults(rt: HostRuntime) -> Result<(), Fail> {
-    let mut images = three_that_fail(&rt, rt.alloc())?;
+    let geo = three(&rt, Some(0));
+    let mut images = attached(rt.alloc(), THREE)?;
+    images.fail_call(5)?;
     let mut sink = sink_of(rt.alloc(), 4096, 1, 100)?;
-    look_at_faults(&rt, rt.alloc(), &mut images, &mut sink);
+    let cut = write(&rt, rt.alloc(), &mut images, 3, &geo, 2, &mut sink);
+    fails(&rt, &cut, true, &sink);
+    let cut = write(&rt, rt.alloc(), &mut images, 3, &geo, 2, &mut sink);
+    fails(&rt, &cut, false, &sink);
     Ok(())
 }
 
@@ -183,20 +149,13 @@ fn sixteen<R: Abort>(rt: &R) -> Geometry {
 }
 
 // Twelve images of zeros, then two of ones: the data members that are there, P and Q.
-fn fourteen_images<R: Abort>(rt: &R, alloc: Global) -> Result<MemImages, Fail> {
-    let zeros = [0; 270];
-    let ones = [1; 270];
-    let blank = ("zeros", zeros.as_slice());
-    let full = ("ones", ones.as_slice());
-    images_of(
-        rt,
-        alloc,
-        &[
-            blank, blank, blank, blank, blank, blank, blank, blank, blank, blank, blank, blank,
-            full, full,
-        ],
-    )
-}
+const BLANK: &[u8] = &[0; 270];
+
+const FULL: &[u8] = &[1; 270];
+
+const FOURTEEN: [&[u8]; 14] = [
+    BLANK, BLANK, BLANK, BLANK, BLANK, BLANK, BLANK, BLANK, BLANK, BLANK, BLANK, BLANK, FULL, FULL,
+];
 
 // Whether these are chunks of 4 sectors, of which each 14th holds ones and the others zeros.
 fn are_chunks(bytes: &[u8]) -> bool {
@@ -214,7 +173,7 @@ fn are_chunks(bytes: &[u8]) -> bool {
 #[test]
 fn sixteen_members_of_which_two_are_lost(rt: HostRuntime) -> Result<(), Fail> {
     let geo = sixteen(&rt);
-    let mut images = fourteen_images(&rt, rt.alloc())?;
+    let mut images = attached(rt.alloc(), &FOURTEEN)?;
     let mut sink = MemSink::new(rt.alloc(), 1_921_024)?;
     assert!(rt; write(&rt, rt.alloc(), &mut images, 14, &geo, 270, &mut sink).is_ok());
     assert!(rt; sink.bytes().len() == 1_921_024);

@@ -153,64 +153,36 @@ fn are_copies_drawn(copying: Copying, copies: u8, members: u8, rows: u64, drawin
     cells.starts_with(drawing) && drawing.len() as u64 == rows * members as u64
 }
 
-#[test]
-fn rows_of_near_copies(rt: HostRuntime) {
-    let near = Copying::Near;
-    assert!(rt;
-        are_copies_drawn(near, 2, 4, 3, b"001122334455"),
-        "four members"
-    );
-    assert!(rt;
-        are_copies_drawn(near, 2, 3, 4, b"001122334455"),
-        "three members"
-    );
-    assert!(rt;
-        are_copies_drawn(near, 2, 3, 3, b"00112233-"),
-        "an odd number of cells"
-    );
-    assert!(rt;
-        are_copies_drawn(near, 3, 4, 3, b"000111222333"),
-        "three copies"
-    );
-    assert!(rt;
-        !are_copies_drawn(near, 2, 3, 3, b"001122334"),
-        "the last cell is no part"
-    );
-}
+// How chunks are copied, how often, the members, the rows, and a drawing that is theirs or not.
+type Copies = (Copying, u8, u8, u64, &'static [u8], bool);
+
+static COPIES: [Copies; 12] = [
+    (Copying::Near, 2, 4, 3, b"001122334455", true),
+    (Copying::Near, 2, 3, 4, b"001122334455", true),
+    // the last of an odd number of cells is no part
+    (Copying::Near, 2, 3, 3, b"00112233-", true),
+    (Copying::Near, 2, 3, 3, b"001122334", false),
+    (Copying::Near, 3, 4, 3, b"000111222333", true),
+    (Copying::Far, 2, 2, 4, b"01231032", true),
+    (Copying::Far, 2, 3, 4, b"012345201534", true),
+    // an odd number of rows
+    (Copying::Far, 2, 4, 3, b"01233012----", true),
+    (Copying::Far, 3, 3, 3, b"012201120", true),
+    (Copying::Offset, 2, 3, 4, b"012201345534", true),
+    (Copying::Offset, 2, 4, 3, b"01233012----", true),
+    (Copying::Offset, 3, 4, 3, b"012330122301", true),
+];
 
 #[test]
-fn rows_of_far_copies(rt: HostRuntime) {
-    let far = Copying::Far;
-    assert!(rt; are_copies_drawn(far, 2, 2, 4, b"01231032"), "two members");
-    assert!(rt;
-        are_copies_drawn(far, 2, 3, 4, b"012345201534"),
-        "three members"
-    );
-    assert!(rt;
-        are_copies_drawn(far, 2, 4, 3, b"01233012----"),
-        "an odd number of rows"
-    );
-    assert!(rt;
-        are_copies_drawn(far, 3, 3, 3, b"012201120"),
-        "three copies"
-    );
-}
-
-#[test]
-fn rows_of_offset_copies(rt: HostRuntime) {
-    let offset = Copying::Offset;
-    assert!(rt;
-        are_copies_drawn(offset, 2, 3, 4, b"012201345534"),
-        "three members"
-    );
-    assert!(rt;
-        are_copies_drawn(offset, 2, 4, 3, b"01233012----"),
-        "an odd number of rows"
-    );
-    assert!(rt;
-        are_copies_drawn(offset, 3, 4, 3, b"012330122301"),
-        "three copies"
-    );
+fn rows_of_copies(rt: HostRuntime) {
+    for (copying, copies, members, rows, drawing, drawn) in &COPIES {
+        let are = are_copies_drawn(*copying, *copies, *members, *rows, drawing);
+        assert_eq!(rt;
+            are,
+            *drawn,
+            "{copies} copies, {members} members, {rows} rows"
+        );
+    }
 }
 
 #[test]

@@ -168,7 +168,8 @@ mapped_before damaged left seen mid new source taken out put (Err (Stopped Malfo
 mapped_before damaged left seen mid new source taken out put (Err (Stopped OutOfMemory)) faults read ends =
     IfSome_then left ends (λ text one. (
       IfSome_then (damaged.refused text) one.0 (λ refusal still_there. record { source = still_there.source; out = still_there.out; unread = still_there.unread ∙ read }),
-      IfSome_then (damaged.volume text) one.1 (λ bytes same. same ∙ ap (λ (c : Counts). wire source.known out.known c) (same_counts mid seen faults read))))
+      IfSome_then (damaged.volume text) one.1 (λ bytes same. same ∙ ap (λ (c : Counts). wire source.known out.known c) (same_counts mid seen faults read)),
+    ))
 mapped_before damaged left seen mid new source taken out put (Err ImageFault) faults read ends =
     (record { source = ends.0.source; out = ends.0.out; unread = ends.0.unread ∙ read }, subst (λ (n : ℕ). Rose n new.faults) faults ends.1)
 mapped_before damaged left seen mid new source taken out put (Err MapsFault) faults read ends =

@@ -3,11 +3,11 @@ use Rattle.std.proofs.Common.{ℕ, ◌≡◌, ◌<◌, ◌≤◌, Bool, true, fa
 use Rattle.std.proofs.lemmas.Bool.{cases_Bool}
 use Rattle.std.proofs.lemmas.Bool.Decides.{nat_tests}
 use Rattle.member_regions.specs.Regions.{Room}
-use Rattle.relation_prefix.specs.Sampled.{KeptRows}
+use Rattle.relation_prefix.specs.Sampled.{AreBelow, KeptRows}
 use Rattle.relation_prefix.specs.declared.row_ties.RowTies.{RowTies}
 use Rattle.relation_prefix.specs.declared.sampled.SampledRow.{SampledRow}
 use Rattle.row_samples.proofs.Offered.{by_choice}
-use Rattle.row_samples.specs.Spreads.{chosen, is_wanted, kept_row, offered, passed, passed_row, wants, HasFew, HasNone, HaveFew, OffersRow, Sampling}
+use Rattle.row_samples.specs.Spreads.{chosen, is_wanted, kept_row, offered, passed, passed_row, wants, HasFew, HasNone, HaveFew, LieBelow, OffersRow, Sampling}
 use Rattle.row_samples.specs.declared.spread.Spread.{Spread}
 
 none_few : (spread : Spread) → spread.kept.list ≡ [] → HasFew spread.kept.most spread
@@ -52,12 +52,18 @@ few_later room place row begun old new offers few = elim (cases_Bool (is_wanted 
       ])
 ]
 
-few_of : (n : ℕ) (test : Bool) (one other : KeptRows) → length one.list ≤ n → length other.list ≤ n → length (cond test one other).list ≤ n
-few_of n true one other first second = first
-few_of n false one other first second = second
+kept_of : (P : KeptRows → Type 0) (test : Bool) (one other : KeptRows) → P one → P other → P (cond test one other)
+kept_of P true one other first second = first
+kept_of P false one other first second = second
 
 -- nor among the rows that are asked
 pub few_chosen : (most : ℕ) (sampling : Sampling) (kept : KeptRows) → length sampling.telling.kept.list ≤ most → length sampling.others.kept.list ≤ most → kept ≡ chosen sampling → length kept.list ≤ most
 few_chosen most sampling kept telling others is =
-    subst (λ (k : KeptRows). length k.list ≤ most) (sym is)
-    (few_of most (nat_lt sampling.badrows (length sampling.telling.kept.list)) sampling.telling.kept sampling.others.kept telling others)
+    let P : KeptRows → Type 0 = λ rows. length rows.list ≤ most in
+    subst P (sym is) (kept_of P (nat_lt sampling.badrows (length sampling.telling.kept.list)) sampling.telling.kept sampling.others.kept telling others)
+
+-- the rows that are asked lie below what all rows lie below
+pub below_chosen : (row : ℕ) (sampling : Sampling) (kept : KeptRows) → LieBelow row sampling → kept ≡ chosen sampling → AreBelow row kept.list
+below_chosen row sampling kept below is =
+    let P : KeptRows → Type 0 = λ rows. AreBelow row rows.list in
+    subst P (sym is) (kept_of P (nat_lt sampling.badrows (length sampling.telling.kept.list)) sampling.telling.kept sampling.others.kept below.telling below.others)

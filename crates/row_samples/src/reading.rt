@@ -8,7 +8,8 @@ ghost use Rattle.raid_params.specs.declared.limits.TheConstants.{MOST};
 ghost use Rattle.member_regions.specs.Regions.{IsRoomFor};
 ghost use Rattle.search_scope.specs.Scopes.{IsScope, AgreeWith};
 ghost use Rattle.row_samples.specs.Rows.{most_kept as most_rows_kept, AreImageRows, EndsSamples};
-ghost use Rattle.row_samples.specs.Spreads.{AreSampled, HasNone};
+ghost use Rattle.relation_prefix.specs.Sampled.{AreBelow};
+ghost use Rattle.row_samples.specs.Spreads.{AreSampled, HasNone, LieBelow};
 
 use crate::sampler::{RowSampler, most_kept};
 use member_regions::Regions;
@@ -52,6 +53,7 @@ pub fn read_rows<I: Images>(
     ensures told { IfOk result (λ kept. IfSome (told_all (I.seen images.old).attached)
         (λ bytes. AreImageRows bytes (length scope.now.lengths.items) offset kept.list)) }
     ensures few { IfOk result (λ kept. length kept.list ≤ most_rows_kept scope.now.limits.badrows) }
+    ensures below { IfOk result (λ kept. AreBelow rows kept.list) }
     ensures reads { OnlyReads (I.seen images.old) (I.seen images.new)
         (length scope.now.lengths.items * min (TRIES * most_rows_kept scope.now.limits.badrows) rows) }
     ensures ends { IfErr result (EndsSamples (I.seen images.old) (I.seen images.new)) }
@@ -102,6 +104,7 @@ fn fill<I: Images>(
         (λ bytes. AreSampled bytes (length scope.now.lengths.items) offset sampler.new)) }
     ensures telling_few { length sampler.new.telling.kept.list ≤ most_rows_kept scope.now.limits.badrows }
     ensures others_few { length sampler.new.others.kept.list ≤ most_rows_kept scope.now.limits.badrows }
+    ensures below { LieBelow rows sampler.new }
     ensures reads { OnlyReads (I.seen images.old) (I.seen images.new) (length scope.now.lengths.items * tries) }
     ensures cause { HasCause (I.seen images.old).faults (I.seen images.new).faults result }
 {

@@ -6,7 +6,7 @@ use Rattle.member_regions.proofs.IfTold.{if_both}
 use Rattle.member_regions.specs.Regions.{HoldRead}
 use Rattle.search_scope.specs.Scopes.{AgreeWith}
 use Rattle.row_samples.specs.Spreads.{AreSampled, HaveFew, LieBelow, Sampling}
-use Rattle.row_samples.proofs.Begun.{far_first, far_later, lie_later, AreFar}
+use Rattle.row_samples.proofs.Begun.{far_first, far_later, lie_later, none_lie, AreFar}
 use Rattle.row_samples.proofs.Few.{few_first, few_later}
 use Rattle.row_samples.proofs.Offered.{offered_below, offered_images, offered_rows}
 use Rattle.row_samples.proofs.Ordered.{in_order, order_length, order_reaches, scope_near, reads_images, reads_more, reads_within, sector_held}
@@ -17,6 +17,7 @@ pub loop-number-init : goal.loop-number-init
 loop-number-init g c = record {
   far = far_first (g.I.Images.seen c.args.images.now).attached c.args.scope.now c.args.offset (c.args.rows / c.args.tries * 0) c.args.sampler.now c.requires.images c.requires.none;
   few = few_first (length c.args.scope.now.lengths.items) c.args.sampler.now c.requires.none;
+  within = none_lie c.args.rows (length c.args.scope.now.lengths.items) c.args.sampler.now c.requires.none;
   faults = refl;
   reads = reads_up (g.I.Images.seen c.args.images.now) (g.I.Images.seen c.args.images.now) (reads_none (g.I.Images.seen c.args.images.now)) (omega arith);
   room = c.requires.room;
@@ -98,6 +99,7 @@ loop-number-preserved g c =
           record {
             far = subst F (sym w.sampler-is) far;
             few = subst Few (sym w.sampler-is) (few_later room 0 row c.args.sampler.now old new offers c.loop-number.invariant.few);
+            within = subst (LieBelow c.args.rows) (sym w.sampler-is) (lie_later (row + 1) c.args.rows new (let inside = c.try_row-row.ensures.within in omega arith) (offered_below room 0 row old new offers below));
             faults = rw w.images-is (search rules);
             reads = rw w.images-is (reads_more (g.I.Images.seen c.args.images.now) (g.I.Images.seen c.loop-number.images) (g.I.Images.seen w.read.new.images) n c.loop-number.number 1 c.loop-number.invariant.reads
                 (reads_images (g.I.Images.seen c.loop-number.images) (g.I.Images.seen w.read.new.images) slots n 1 ordered w.read.ensures.reads));
@@ -113,6 +115,7 @@ loop-number-preserved g c =
           record {
             far = subst F (sym w.sampler-is) far;
             few = subst Few (sym w.sampler-is) c.loop-number.invariant.few;
+            within = subst (LieBelow c.args.rows) (sym w.sampler-is) c.loop-number.invariant.within;
             faults = rw w.images-is c.loop-number.invariant.faults;
             reads = rw w.images-is (reads_up (g.I.Images.seen c.args.images.now) (g.I.Images.seen c.loop-number.images) c.loop-number.invariant.reads (omega arith));
             room = rw w.regions-is c.loop-number.invariant.room;

@@ -1,6 +1,6 @@
 //! Operands that are not given.
 use crate::objects::{filled, images_of};
-use crate::placed::{Placed, put_all};
+use crate::placed::{HEADER, Placed, put_all};
 use crate::plans::{FIVE_MEMBERS, NO_WHOLE_ROW};
 use crate::rows::{End, Row, TWENTY_FOUR, ZERO, check, ends_so, run};
 use std::alloc::Global;
@@ -118,25 +118,21 @@ fn the_end_is_that_of_the_shortest(rt: HostRuntime) -> Result<(), Fail> {
 /// A header of a partition table in block 1 of 128, whose checksum was computed by zlib; a boot sector of NTFS of 100 sectors; a
 /// superblock of XFS of four groups of 136 sectors.
 const ONE_OF_EACH: &[Placed] = &[
-    Placed {
-        image: 0,
-        sector: 0,
-        fields: &[
-            (0, b"EFI PART"),
-            (10, &[1]),
-            (12, &[92]),
+    (0, 0, HEADER),
+    (
+        0,
+        0,
+        &[
             (16, &[0x81, 0xFE, 0xE7, 0x71]),
             (24, &[1]),
             (32, &[127]),
             (72, &[2]),
-            (80, &[4]),
-            (84, &[128]),
         ],
-    },
-    Placed {
-        image: 1,
-        sector: 1,
-        fields: &[
+    ),
+    (
+        1,
+        1,
+        &[
             (3, b"NTFS    "),
             (12, &[2, 8]),
             (40, &[100]),
@@ -145,18 +141,18 @@ const ONE_OF_EACH: &[Placed] = &[
             (64, &[0xF6]),
             (510, &[0x55, 0xAA]),
         ],
-    },
-    Placed {
-        image: 1,
-        sector: 2,
-        fields: &[
+    ),
+    (
+        1,
+        2,
+        &[
             (0, b"XFSB"),
             (6, &[0x10]),
             (87, &[17]),
             (91, &[4]),
             (102, &[2]),
         ],
-    },
+    ),
 ];
 
 /// What a survey prints of them.

@@ -3,7 +3,7 @@ ghost use Rattle.std.specs.Prelude.{◌≡◌, IfOk};
 ghost use Rattle.reraid_rows.specs.Ready.{AreReady};
 
 use crate::objects::{Objects, filled, images_of, ready, run_in_pieces, run_words, words_of};
-use crate::placed::{Placed, put_all};
+use crate::placed::{Field, HEADER, Placed, put_all};
 use crate::plans::{EACH_OFFSET, LEVEL_SIX, LISTING, NO_LANDMARK, PLAN, bytes_of};
 use crate::rows::{End, STRIPES, STRIPES_LOST, compare, same_bytes, same_status};
 use outside::Memory;
@@ -39,7 +39,7 @@ enum Answer<'a> {
 struct Run<'a> {
     line: &'a str,
     images: &'a [&'a [u8]],
-    placed: &'a [Placed<'a>],
+    placed: &'a [Placed],
     plan: &'a str,
     status: u8,
     answer: Answer<'a>,
@@ -186,61 +186,33 @@ fn each_call<R: Threads + Sync + Abort>(
 }
 
 /// The header of an image's own table in block 1 of 100, and its copy in block 99. Checksums were computed by zlib.
-const OWN: &[(usize, &[u8])] = &[
-    (0, b"EFI PART"),
-    (10, &[1]),
-    (12, &[92]),
+const OWN: &[Field] = &[
     (16, &[0x39, 0x73, 0x41, 0x17]),
     (24, &[1]),
     (32, &[99]),
     (72, &[2]),
-    (80, &[4]),
-    (84, &[128]),
 ];
 
-const OWN_COPY: &[(usize, &[u8])] = &[
-    (0, b"EFI PART"),
-    (10, &[1]),
-    (12, &[92]),
+const OWN_COPY: &[Field] = &[
     (16, &[0x38, 0x0D, 0xD8, 0xD4]),
     (24, &[99]),
     (32, &[1]),
     (72, &[98]),
-    (80, &[4]),
-    (84, &[128]),
 ];
 
 const OWN_TABLES: &[Placed] = &[
-    Placed {
-        image: 0,
-        sector: 1,
-        fields: OWN,
-    },
-    Placed {
-        image: 0,
-        sector: 99,
-        fields: OWN_COPY,
-    },
-    Placed {
-        image: 1,
-        sector: 1,
-        fields: OWN,
-    },
-    Placed {
-        image: 1,
-        sector: 99,
-        fields: OWN_COPY,
-    },
-    Placed {
-        image: 2,
-        sector: 1,
-        fields: OWN,
-    },
-    Placed {
-        image: 2,
-        sector: 99,
-        fields: OWN_COPY,
-    },
+    (0, 1, HEADER),
+    (0, 1, OWN),
+    (0, 99, HEADER),
+    (0, 99, OWN_COPY),
+    (1, 1, HEADER),
+    (1, 1, OWN),
+    (1, 99, HEADER),
+    (1, 99, OWN_COPY),
+    (2, 1, HEADER),
+    (2, 1, OWN),
+    (2, 99, HEADER),
+    (2, 99, OWN_COPY),
 ];
 
 /// The members, where they begin at sector 1 of the first image.

@@ -9,7 +9,7 @@ use std::test::Fail;
 use std::thread::Threads;
 
 /// Other texts for a line of the first plan, and the line that is refused with it, or 0.
-static LINES: [(usize, &str, u64); 109] = [
+static LINES: [(usize, &str, u64); 91] = [
     (1, "reraid-plan 2", 0),
     (1, "reraid-plan 3", 2),
     (1, "reraid-plan 3\nmode common", 21),
@@ -114,7 +114,6 @@ static LINES: [(usize, &str, u64); 109] = [
     (20, "group ext4\ndone", 20),
     (20, "group gpt ntfs\ndone", 20),
     (20, "mark gpt 0 0 at:0\ndone", 20),
-    (20, "group gpt\nmark gpt 0 0 at:0\ndone", 0),
     (20, "group gpt\nmark boot 0 0 at:0\ndone", 21),
     (20, "group ntfs\nmark super 0 0 at:0\ndone", 21),
     (
@@ -145,73 +144,30 @@ static LINES: [(usize, &str, u64); 109] = [
         "group gpt\nmark gpt 1 0 at:0\nmark gpt 1 0 at:1\ndone",
         22,
     ),
-    (20, "group gpt\nmark gpt 0 0 at:36028797018963967\ndone", 0),
-    (20, "group gpt\nmark gpt 0 0 at:36028797018963968\ndone", 21),
-    (20, "group gpt\nmark gpt 0 0 at:1:2\ndone", 21),
-    (
-        20,
-        "group gpt\nmark gpt 0 0 either:36028797018963967:36028797018963967\ndone",
-        0,
-    ),
-    (
-        20,
-        "group gpt\nmark gpt 0 0 either:0:36028797018963968\ndone",
-        21,
-    ),
-    (20, "group gpt\nmark gpt 0 0 either:0\ndone", 21),
-    (
-        20,
-        "group gpt\nmark gpt 0 0 every:1:36028797018963967:0\ndone",
-        0,
-    ),
-    (
-        20,
-        "group gpt\nmark gpt 0 0 every:36028797018963967:1:0\ndone",
-        0,
-    ),
-    (
-        20,
-        "group gpt\nmark gpt 0 0 every:0:0:36028797018963967\ndone",
-        0,
-    ),
-    (
-        20,
-        "group gpt\nmark gpt 0 0 every:18014398509481983:2:1\ndone",
-        0,
-    ),
-    (
-        20,
-        "group gpt\nmark gpt 0 0 every:18014398509481983:2:2\ndone",
-        21,
-    ),
-    (
-        20,
-        "group gpt\nmark gpt 0 0 every:18014398509481984:2:0\ndone",
-        21,
-    ),
-    (
-        20,
-        "group gpt\nmark gpt 0 0 every:36028797018963967:36028797018963967:0\ndone",
-        21,
-    ),
-    (
-        20,
-        "group gpt\nmark gpt 0 0 every:36028797018963968:0:0\ndone",
-        21,
-    ),
-    (
-        20,
-        "group gpt\nmark gpt 0 0 every:0:36028797018963968:0\ndone",
-        21,
-    ),
-    (
-        20,
-        "group gpt\nmark gpt 0 0 every:0:0:36028797018963968\ndone",
-        21,
-    ),
-    (20, "group gpt\nmark gpt 0 0 every:0:0\ndone", 21),
     (20, "group gpt\nmark gpt 0 0\ndone", 21),
     (20, "group ntfs\nmark record 0 0 every:0:0:0\ndone", 0),
+];
+
+/// Rules of a mark in the place of the last line, and the line that is refused with each, or 0.
+static RULES: [(&str, u64); 18] = [
+    ("at:0", 0),
+    ("at:36028797018963967", 0),
+    ("at:36028797018963968", 21),
+    ("at:1:2", 21),
+    ("either:36028797018963967:36028797018963967", 0),
+    ("either:0:36028797018963968", 21),
+    ("either:0", 21),
+    ("every:1:36028797018963967:0", 0),
+    ("every:36028797018963967:1:0", 0),
+    ("every:0:0:36028797018963967", 0),
+    ("every:18014398509481983:2:1", 0),
+    ("every:18014398509481983:2:2", 21),
+    ("every:18014398509481984:2:0", 21),
+    ("every:36028797018963967:36028797018963967:0", 21),
+    ("every:36028797018963968:0:0", 21),
+    ("every:0:36028797018963968:0", 21),
+    ("every:0:0:36028797018963968", 21),
+    ("every:0:0", 21),
 ];
 
 /// Lists over a plan that is refused at this line.
@@ -232,15 +188,20 @@ fn refused<R: Threads + Sync + Abort>(
     ends_so(rt, alloc, line, contents, plan, &end)
 }
 
-/// Lists over a plan that is read.
-fn read<R: Threads + Sync + Abort>(
+/// Lists over the first plan with another text in the place of a line, which is refused at this line, or read if that is 0.
+fn limit<R: Threads + Sync + Abort>(
     rt: &R,
     alloc: Global,
     contents: &[Vec<u8>],
-    plan: &[u8],
+    number: usize,
     text: &str,
+    line: u64,
 ) -> Result<(), Fail> {
-    let (status, _) = run(rt, alloc, LIST, contents, plan)?;
+    let plan = with_line(alloc, number, text)?;
+    if line != 0 {
+        return refused(rt, alloc, LIST, contents, &plan, line);
+    }
+    let (status, _) = run(rt, alloc, LIST, contents, &plan)?;
     assert!(rt; status == 0 || status == 4, "{text}");
     Ok(())
 }
@@ -254,12 +215,11 @@ fn plans_at_their_limits(rt: HostRuntime) -> Result<(), Fail> {
     let alloc = rt.alloc();
     let contents = images_of(alloc, STRIPES)?;
     for (number, text, line) in &LINES {
-        let plan = with_line(alloc, *number, text)?;
-        if *line == 0 {
-            read(&rt, alloc, &contents, &plan, text)?;
-        } else {
-            refused(&rt, alloc, LIST, &contents, &plan, *line)?;
-        }
+        limit(&rt, alloc, &contents, *number, text, *line)?;
+    }
+    for (rule, line) in &RULES {
+        let text = format!(in alloc; "group gpt\nmark gpt 0 0 {rule}\ndone")?;
+        limit(&rt, alloc, &contents, 20, text.as_str(), *line)?;
     }
     Ok(())
 }

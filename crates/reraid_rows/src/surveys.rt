@@ -1,8 +1,8 @@
 //! Surveys of images that hold landmarks, and listings over their plans.
-use crate::placed::{Field, Placed, images};
+use crate::placed::{Field, HEADER, Placed, images};
 use crate::plans::XFS;
 use crate::rows::{End, compare, ends_so, run, same_status};
-use outside::{Memory, SECTOR};
+use outside::SECTOR;
 use std::alloc::Global;
 use std::process::Abort;
 use std::test::Fail;
@@ -13,7 +13,7 @@ use std::thread::Threads;
 struct Surveyed<'a> {
     line: &'a str,
     lengths: &'a [usize],
-    placed: &'a [Placed<'a>],
+    placed: &'a [Placed],
     plan: &'a str,
 }
 
@@ -40,90 +40,47 @@ fn check<R: Threads + Sync + Abort>(rt: &R, alloc: Global, survey: &Surveyed) ->
     ends_so(rt, alloc, survey.line, &contents, b"", &end)
 }
 
-/// A header of a partition table in block 1 whose last copy is in block 127, with entries in block 2. Its
-/// checksum was computed by zlib.
-const HEADER: &[Field] = &[
-    (0, b"EFI PART"),
-    (10, &[1]),
-    (12, &[92]),
+/// What a header says in block 1 whose last copy is in block 127, with entries in block 2. Checksums were computed by zlib.
+const LAST_127: &[Field] = &[
     (16, &[0x81, 0xFE, 0xE7, 0x71]),
     (24, &[1]),
     (32, &[127]),
     (72, &[2]),
-    (80, &[4]),
-    (84, &[128]),
 ];
 
-/// The same, with a bit of the disk's identifier changed.
-const CHANGED: &[Field] = &[
-    (0, b"EFI PART"),
-    (10, &[1]),
-    (12, &[92]),
-    (16, &[0x81, 0xFE, 0xE7, 0x71]),
-    (24, &[1]),
-    (32, &[127]),
-    (56, &[1]),
-    (72, &[2]),
-    (80, &[4]),
-    (84, &[128]),
-];
+/// A bit of the disk's identifier is changed.
+const CHANGED: &[Field] = &[(56, &[1])];
 
 /// One entry in use, from block 40 to 100.
 const ENTRIES: &[Field] = &[(0, &[1]), (32, &[40]), (40, &[100])];
 
 /// The header of an image's own table in block 1 of 10,000, and its copy in block 9999.
 const OWN: &[Field] = &[
-    (0, b"EFI PART"),
-    (10, &[1]),
-    (12, &[92]),
     (16, &[0x1C, 0x51, 0x73, 0xB1]),
     (24, &[1]),
     (32, &[0x0F, 0x27]),
     (72, &[2]),
-    (80, &[4]),
-    (84, &[128]),
 ];
 
 const OWN_COPY: &[Field] = &[
-    (0, b"EFI PART"),
-    (10, &[1]),
-    (12, &[92]),
     (16, &[0xA9, 0xBE, 0x41, 0xED]),
     (24, &[0x0F, 0x27]),
     (32, &[1]),
     (72, &[0xEF, 0x26]),
-    (80, &[4]),
-    (84, &[128]),
 ];
 
 /// A header of a partition table of 16 blocks of 4,096 bytes, in block 1, with its copy in block 15.
 const LARGE_BLOCKS: &[Field] = &[
-    (0, b"EFI PART"),
-    (10, &[1]),
-    (12, &[92]),
     (16, &[0x20, 0xCE, 0x0C, 0x30]),
     (24, &[1]),
     (32, &[15]),
     (72, &[2]),
-    (80, &[4]),
-    (84, &[128]),
 ];
 
 /// One entry in use, from block 5 to 12.
 const LARGE_ENTRIES: &[Field] = &[(0, &[1]), (32, &[5]), (40, &[12])];
 
-const LARGE_TABLE: &[Placed] = &[
-    Placed {
-        image: 0,
-        sector: 8,
-        fields: LARGE_BLOCKS,
-    },
-    Placed {
-        image: 0,
-        sector: 16,
-        fields: LARGE_ENTRIES,
-    },
-];
+const LARGE_TABLE: &[Placed] = &[(0, 8, HEADER), (0, 8, LARGE_BLOCKS), (0, 16, LARGE_ENTRIES)];
 
 /// A label of LVM2 that names sector 1, and a superblock of btrfs at byte 65,536 of its file system.
 const LABEL: &[Field] = &[(0, b"LABELONE"), (8, &[1]), (24, b"LVM2 001")];
@@ -135,31 +92,9 @@ const NO_LABEL: &[Field] = &[(0, b"LABELONE"), (8, &[1]), (24, b"LVM2 002")];
 
 const NO_BTRFS: &[Field] = &[(48, &[1, 0, 1]), (64, b"_BHRfS_M")];
 
-const VOLUMES: &[Placed] = &[
-    Placed {
-        image: 0,
-        sector: 3,
-        fields: LABEL,
-    },
-    Placed {
-        image: 0,
-        sector: 130,
-        fields: BTRFS,
-    },
-];
+const VOLUMES: &[Placed] = &[(0, 3, LABEL), (0, 130, BTRFS)];
 
-const NO_VOLUMES: &[Placed] = &[
-    Placed {
-        image: 0,
-        sector: 3,
-        fields: NO_LABEL,
-    },
-    Placed {
-        image: 0,
-        sector: 130,
-        fields: NO_BTRFS,
-    },
-];
+const NO_VOLUMES: &[Placed] = &[(0, 3, NO_LABEL), (0, 130, NO_BTRFS)];
 
 /// A superblock of ext4 with blocks of 4,096 bytes, 32,768 a group, and its copies in groups 1 and 3.
 const EXT: &[Field] = &[(24, &[2]), (33, &[128]), (56, &[0x53, 0xEF]), (76, &[1])];
@@ -180,84 +115,33 @@ const EXT_THREE: &[Field] = &[
     (90, &[3]),
 ];
 
-const COPIES: &[Placed] = &[
-    Placed {
-        image: 0,
-        sector: 2,
-        fields: EXT,
-    },
-    Placed {
-        image: 0,
-        sector: 100,
-        fields: EXT_ONE,
-    },
-    Placed {
-        image: 0,
-        sector: 200,
-        fields: EXT_THREE,
-    },
-];
+const COPIES: &[Placed] = &[(0, 2, EXT), (0, 100, EXT_ONE), (0, 200, EXT_THREE)];
 
 /// The length of an image of 400 sectors.
 const FOUR_HUNDRED: &[usize] = &[204_800];
 
-const TABLE: &[Placed] = &[
-    Placed {
-        image: 0,
-        sector: 1,
-        fields: HEADER,
-    },
-    Placed {
-        image: 0,
-        sector: 2,
-        fields: ENTRIES,
-    },
-];
+const TABLE: &[Placed] = &[(0, 1, HEADER), (0, 1, LAST_127), (0, 2, ENTRIES)];
 
 const CHANGED_TABLE: &[Placed] = &[
-    Placed {
-        image: 0,
-        sector: 1,
-        fields: CHANGED,
-    },
-    Placed {
-        image: 0,
-        sector: 2,
-        fields: ENTRIES,
-    },
+    (0, 1, HEADER),
+    (0, 1, LAST_127),
+    (0, 1, CHANGED),
+    (0, 2, ENTRIES),
 ];
 
 const OWN_TABLES: &[Placed] = &[
-    Placed {
-        image: 0,
-        sector: 1,
-        fields: OWN,
-    },
-    Placed {
-        image: 0,
-        sector: 9999,
-        fields: OWN_COPY,
-    },
-    Placed {
-        image: 1,
-        sector: 1,
-        fields: OWN,
-    },
-    Placed {
-        image: 1,
-        sector: 9999,
-        fields: OWN_COPY,
-    },
-    Placed {
-        image: 2,
-        sector: 1,
-        fields: OWN,
-    },
-    Placed {
-        image: 2,
-        sector: 9999,
-        fields: OWN_COPY,
-    },
+    (0, 1, HEADER),
+    (0, 1, OWN),
+    (0, 9999, HEADER),
+    (0, 9999, OWN_COPY),
+    (1, 1, HEADER),
+    (1, 1, OWN),
+    (1, 9999, HEADER),
+    (1, 9999, OWN_COPY),
+    (2, 1, HEADER),
+    (2, 1, OWN),
+    (2, 9999, HEADER),
+    (2, 9999, OWN_COPY),
 ];
 
 /// A boot sector of NTFS: 8 sectors a cluster, 100 sectors, $MFT in cluster 4, its copy in cluster 2, and
@@ -279,41 +163,9 @@ const RECORD: &[Field] = &[(0, b"FILE"), (4, &[48]), (29, &[4]), (44, &[1])];
 /// The same, with the update sequence at 42.
 const OLD_RECORD: &[Field] = &[(0, b"FILE"), (4, &[42]), (29, &[4]), (44, &[1])];
 
-const NTFS: &[Placed] = &[
-    Placed {
-        image: 0,
-        sector: 10,
-        fields: BOOT,
-    },
-    Placed {
-        image: 0,
-        sector: 110,
-        fields: BOOT,
-    },
-    Placed {
-        image: 0,
-        sector: 44,
-        fields: RECORD,
-    },
-];
+const NTFS: &[Placed] = &[(0, 10, BOOT), (0, 110, BOOT), (0, 44, RECORD)];
 
-const OLD_NTFS: &[Placed] = &[
-    Placed {
-        image: 0,
-        sector: 10,
-        fields: BOOT,
-    },
-    Placed {
-        image: 0,
-        sector: 110,
-        fields: BOOT,
-    },
-    Placed {
-        image: 0,
-        sector: 44,
-        fields: OLD_RECORD,
-    },
-];
+const OLD_NTFS: &[Placed] = &[(0, 10, BOOT), (0, 110, BOOT), (0, 44, OLD_RECORD)];
 
 /// A superblock of XFS: blocks of 4096 bytes, four groups of 17 blocks, sectors of 512 bytes.
 const SUPER: &[Field] = &[
@@ -324,18 +176,37 @@ const SUPER: &[Field] = &[
     (102, &[2]),
 ];
 
-const AGF: [&[Field]; 4] = [
-    &[(0, b"XAGF"), (7, &[1])],
-    &[(0, b"XAGF"), (7, &[1]), (11, &[1])],
-    &[(0, b"XAGF"), (7, &[1]), (11, &[2])],
-    &[(0, b"XAGF"), (7, &[1]), (11, &[3])],
-];
+/// The heads of the parts of a group but for its number, and that number in both.
+const AGF: &[Field] = &[(0, b"XAGF"), (7, &[1])];
 
-const AGI: [&[Field]; 4] = [
-    &[(0, b"XAGI"), (7, &[1])],
-    &[(0, b"XAGI"), (7, &[1]), (11, &[1])],
-    &[(0, b"XAGI"), (7, &[1]), (11, &[2])],
-    &[(0, b"XAGI"), (7, &[1]), (11, &[3])],
+const AGI: &[Field] = &[(0, b"XAGI"), (7, &[1])];
+
+const ONE_OF_FOUR: &[Field] = &[(11, &[1])];
+
+const TWO_OF_FOUR: &[Field] = &[(11, &[2])];
+
+const THREE_OF_FOUR: &[Field] = &[(11, &[3])];
+
+/// The three sectors of each group, each on an image of its own.
+const GROUPS: &[Placed] = &[
+    (0, 512, SUPER),
+    (0, 513, AGF),
+    (0, 514, AGI),
+    (1, 544, SUPER),
+    (1, 545, AGF),
+    (1, 545, ONE_OF_FOUR),
+    (1, 546, AGI),
+    (1, 546, ONE_OF_FOUR),
+    (2, 576, SUPER),
+    (2, 577, AGF),
+    (2, 577, TWO_OF_FOUR),
+    (2, 578, AGI),
+    (2, 578, TWO_OF_FOUR),
+    (3, 608, SUPER),
+    (3, 609, AGF),
+    (3, 609, THREE_OF_FOUR),
+    (3, 610, AGI),
+    (3, 610, THREE_OF_FOUR),
 ];
 
 /// The bytes of two images of 64 sectors, of three of 10,000, of one of 200, and of one below a sector.
@@ -346,28 +217,6 @@ const LARGE: &[usize] = &[5_120_000, 5_120_000, 5_120_000];
 const ONE: &[usize] = &[102_400];
 
 const TORN: &[usize] = &[511];
-
-/// The three sectors of a group on the image of its number.
-fn group(number: usize) -> [Placed<'static>; 3] {
-    let image = number.min(3);
-    [
-        Placed {
-            image,
-            sector: 512 + 32 * image,
-            fields: SUPER,
-        },
-        Placed {
-            image,
-            sector: 513 + 32 * image,
-            fields: AGF[image],
-        },
-        Placed {
-            image,
-            sector: 514 + 32 * image,
-            fields: AGI[image],
-        },
-    ]
-}
 
 /// The surveys of partition tables.
 const TABLES: [Surveyed; 8] = [
@@ -498,18 +347,7 @@ fn short_images_become_a_plan(rt: HostRuntime) -> Result<(), Fail> {
     check_all(&rt, rt.alloc(), &SHORT)
 }
 
-/// Images that hold an XFS of four groups.
-fn images_of_xfs(alloc: Global) -> Result<Vec<Vec<u8>>, Memory> {
-    let mut placed = Vec::new(alloc);
-    for number in 0..4 {
-        placed
-            .extend_from_slice(&group(number))
-            .map_err(|_| Memory)?;
-    }
-    images(alloc, &[640 * SECTOR; 4], &placed)
-}
-
-/// What a survey of them is asked for.
+/// What a survey of images that hold an XFS of four groups is asked for.
 const ASKED: &str =
     "survey levels=0 patterns=plain syndromes=none chunks=8,16 offsets=0 -- a b c d";
 
@@ -528,7 +366,7 @@ const LISTED: End = End {
 #[test]
 fn a_survey_and_then_a_listing(rt: HostRuntime) -> Result<(), Fail> {
     let alloc = rt.alloc();
-    let contents = images_of_xfs(alloc)?;
+    let contents = images(alloc, &[640 * SECTOR; 4], GROUPS)?;
     let surveyed = End {
         status: 0,
         out: XFS.as_bytes(),

@@ -65,7 +65,7 @@ class PairMaker:
         """Mostly a number before one that is a multiple of 32."""
         rng = self.rng
         number = rng.randrange(self.inodes + 64) // 32 * 32 + 31
-        return number if rng.random() < 0.9 else rng.choice([1, 15, 33, number + 16, self.inodes - 1, self.inodes, 2 ** 31 - 1, 2 ** 32 - 2])
+        return number if rng.random() < 0.9 else rng.choice([1, 15, 33, number + 16, (self.inodes - 1) % 2 ** 32, self.inodes, 2 ** 31 - 1, 2 ** 32 - 2])
 
     def pair(self):
         """Mostly two inodes with numbers that follow each other."""

@@ -3,10 +3,10 @@ ghost use Rattle.std.specs.Prelude.{◌≡◌, ◌<◌, ◌∷◌, [], All, IsSo
 ghost use Rattle.image_source.specs.Bytes.{files_tell};
 ghost use Rattle.image_source.specs.Files.{seen_of_files};
 
-use crate::sectors::{Terms, push_sector};
+use crate::sectors::{Terms, row_of};
 use image_source::MemImages;
 use outside::{Failed, Images};
-use std::alloc::{AllocError, Global};
+use std::alloc::Global;
 use std::process::Abort;
 use std::test::Fail;
 
@@ -49,15 +49,6 @@ impl Images for Tall {
     }
 }
 
-/// The bytes of an image, sector by sector.
-fn image_of(alloc: Global, sectors: &[Terms]) -> Result<Vec<u8>, AllocError> {
-    let mut bytes = Vec::new(alloc);
-    for terms in sectors {
-        push_sector(&mut bytes, terms)?;
-    }
-    Ok(bytes)
-}
-
 /// Adds an image beside at most 64, and attaches it.
 #[tactic(auto, using(crate::proofs::Joined::joined, crate::proofs::Joined::few))]
 pub fn join<R: Abort>(
@@ -77,7 +68,7 @@ pub fn images_of<R: Abort>(rt: &R, alloc: Global, each: &[&[Terms]]) -> Result<M
     let mut images = MemImages::new(alloc)?;
     for (number, sectors) in each.iter().enumerate() {
         let name = format!(in alloc; "image {number}")?;
-        let bytes = image_of(alloc, sectors)?;
+        let bytes = row_of(alloc, sectors)?;
         join(rt, &mut images, name.as_str(), &bytes)?;
     }
     Ok(images)

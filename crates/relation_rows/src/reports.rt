@@ -1,20 +1,11 @@
 //! Two rows, and what is said of them.
-use crate::sectors::{A, AB, B, C, CD, D, E, NONE, P, Q, SEVEN, Terms, push_sector};
+use crate::sectors::{A, AB, B, C, CD, D, E, NONE, P, Q, SEVEN, Terms, row_of};
 use image_source::MemSink;
 use relation_lines::{Report, Style};
 use row_relations::RowTable;
-use std::alloc::{AllocError, Global};
+use std::alloc::Global;
 use std::process::Abort;
 use std::test::Fail;
-
-/// The sectors of a row.
-fn row_of(alloc: Global, images: &[Terms]) -> Result<Vec<u8>, AllocError> {
-    let mut bytes = Vec::new(alloc);
-    for terms in images {
-        push_sector(&mut bytes, terms)?;
-    }
-    Ok(bytes)
-}
 
 /// Puts the report of two rows, at sectors 8 and 16, and tells whether each put succeeded.
 fn is_put<R: Abort>(

@@ -1,6 +1,6 @@
 //! Sectors that are sums of others.
 use gf256::mul;
-use std::alloc::AllocError;
+use std::alloc::{AllocError, Global};
 
 /// A sector: a sum of others, each by its weight and the number from which it is generated. No term is zeros.
 pub type Terms = &'static [(u8, u32)];
@@ -31,7 +31,7 @@ pub const P: Terms = &[(1, 1), (1, 2), (1, 3), (1, 4), (1, 5), (1, 6)];
 pub const Q: Terms = &[(1, 1), (2, 2), (4, 3), (8, 4), (16, 5), (32, 6)];
 
 /// Appends a sector.
-pub fn push_sector(bytes: &mut Vec<u8>, terms: Terms) -> Result<(), AllocError> {
+fn push_sector(bytes: &mut Vec<u8>, terms: Terms) -> Result<(), AllocError> {
     let mut sector = [0u8; 512];
     for (weight, seed) in terms {
         let mut number = *seed;
@@ -41,4 +41,13 @@ pub fn push_sector(bytes: &mut Vec<u8>, terms: Terms) -> Result<(), AllocError> 
         }
     }
     bytes.extend_from_slice(&sector)
+}
+
+/// Sectors one after the other: a row of images, or an image.
+pub fn row_of(alloc: Global, each: &[Terms]) -> Result<Vec<u8>, AllocError> {
+    let mut bytes = Vec::new(alloc);
+    for terms in each {
+        push_sector(&mut bytes, terms)?;
+    }
+    Ok(bytes)
 }

@@ -4,32 +4,18 @@ ghost use Rattle.std.specs.Prelude.{◌≡◌, IfOk, length};
 ghost use Rattle.std.specs.Bool.{Decides};
 ghost use Rattle.relation_prefix.specs.Ties.{AreThere};
 
-use gf256::mul;
+use crate::sectors::{A, AB, B, C, D, NONE, Terms, row_of};
 use raid_params::{Head, Level, Pattern, Syndrome};
 use relation_prefix::{HeadRelations, PrefixTest, RowTies, SampledRows};
 use row_relations::RowTable;
-use std::alloc::{AllocError, Global};
+use std::alloc::Global;
 use std::process::Abort;
 use std::test::Fail;
 
-/// A sector: a sum of generated ones, each by its weight and its number.
-type Terms = &'static [(u8, u32)];
-
-const A: Terms = &[(1, 1)];
-
-const B: Terms = &[(1, 2)];
-
-const C: Terms = &[(1, 3)];
-
-const D: Terms = &[(1, 4)];
-/// The parity P of two data blocks, and with a third block in it.
-const P: Terms = &[(1, 1), (1, 2)];
-
-const PC: Terms = &[(1, 1), (1, 2), (1, 3)];
-/// Their Q.
-const Q: Terms = &[(1, 1), (2, 2)];
-/// Zeros.
-const NONE: Terms = &[];
+/// The parity P of three data blocks.
+const ABC: Terms = &[(1, 1), (1, 2), (1, 3)];
+/// Q of two.
+const QAB: Terms = &[(1, 1), (2, 2)];
 
 /// Four members of RAID 6, P on the third slot and Q on the last one: their weights are 1, 1, 1, 0 in P's equation and 1, 2, 0, 1 in
 /// Q's.
@@ -53,28 +39,6 @@ const FIVE: Head = Head {
     chunk: 1,
     offset: 0,
 };
-
-/// Appends a sector.
-fn push_sector(bytes: &mut Vec<u8>, terms: Terms) -> Result<(), AllocError> {
-    let mut sector = [0u8; 512];
-    for (weight, seed) in terms {
-        let mut number = *seed;
-        for place in 0..512 {
-            number = number.wrapping_mul(75).wrapping_add(74) % 65537;
-            sector[place] ^= mul(*weight, (number % 256) as u8);
-        }
-    }
-    bytes.extend_from_slice(&sector)
-}
-
-/// The sectors of a row.
-fn row_of(alloc: Global, images: &[Terms]) -> Result<Vec<u8>, AllocError> {
-    let mut bytes = Vec::new(alloc);
-    for terms in images {
-        push_sector(&mut bytes, terms)?;
-    }
-    Ok(bytes)
-}
 
 /// Keeps the row of a table.
 fn keep(kept: &mut SampledRows, row: u64, table: &RowTable) -> Result<(), Fail>
@@ -157,7 +121,7 @@ fn both(head: Head, missing: u8) -> PrefixTest {
 // Of the order 1, 0 P's equation may hold, and Q's with any third image but P's: 2 A + B is no sum that P takes part in.
 #[test]
 fn no_slot_lost(rt: HostRuntime) -> Result<(), Fail> {
-    let rows: [&[Terms]; 2] = [&[A, B, P, Q], &[A, B, P, Q]];
+    let rows: [&[Terms]; 2] = [&[A, B, AB, QAB], &[A, B, AB, QAB]];
     let test = both(SIX, 0);
     let alloc = rt.alloc();
     tells(&rt, alloc, rows, &test, &[], true)?;
@@ -171,7 +135,7 @@ fn no_slot_lost(rt: HostRuntime) -> Result<(), Fail> {
 // P is lost: A + 2 B + Q is the only relation. With the images of A and B exchanged no slot may be the lost one.
 #[test]
 fn a_slot_lost(rt: HostRuntime) -> Result<(), Fail> {
-    let rows: [&[Terms]; 2] = [&[A, B, Q], &[A, B, Q]];
+    let rows: [&[Terms]; 2] = [&[A, B, QAB], &[A, B, QAB]];
     let test = both(SIX, 1);
     let alloc = rt.alloc();
     tells(&rt, alloc, rows, &test, &[Some(0), Some(1)], true)?;
@@ -199,7 +163,7 @@ fn a_slot_lost(rt: HostRuntime) -> Result<(), Fail> {
 // At most one may be lost, and none is.
 #[test]
 fn none_of_one_lost(rt: HostRuntime) -> Result<(), Fail> {
-    let rows: [&[Terms]; 2] = [&[A, B, P, Q], &[A, B, P, Q]];
+    let rows: [&[Terms]; 2] = [&[A, B, AB, QAB], &[A, B, AB, QAB]];
     let whole = [Some(0), Some(1), Some(2), Some(3)];
     tells(&rt, rt.alloc(), rows, &both(SIX, 1), &whole, true)
 }
@@ -207,20 +171,20 @@ fn none_of_one_lost(rt: HostRuntime) -> Result<(), Fail> {
 // The fifth image takes part in the parity of the first three. As long as slots are to come it may be one of them.
 #[test]
 fn a_foreign_image(rt: HostRuntime) -> Result<(), Fail> {
-    let rows: [&[Terms]; 2] = [&[A, B, PC, Q, C], &[A, B, PC, Q, C]];
+    let rows: [&[Terms]; 2] = [&[A, B, ABC, QAB, C], &[A, B, ABC, QAB, C]];
     let test = both(SIX, 0);
     let alloc = rt.alloc();
     tells(&rt, alloc, rows, &test, &[Some(0), Some(1), Some(2)], true)?;
     let whole = [Some(0), Some(1), Some(2), Some(3)];
     tells(&rt, alloc, rows, &test, &whole, false)?;
-    let others: [&[Terms]; 2] = [&[A, B, P, Q, C], &[A, B, P, Q, D]];
+    let others: [&[Terms]; 2] = [&[A, B, AB, QAB, C], &[A, B, AB, QAB, D]];
     tells(&rt, alloc, others, &test, &whole, true)
 }
 
 // The second row is unsound: it refuses where it is tested, unless one may be unsound.
 #[test]
 fn a_row_that_is_unsound(rt: HostRuntime) -> Result<(), Fail> {
-    let rows: [&[Terms]; 2] = [&[A, B, P], &[A, B, C]];
+    let rows: [&[Terms]; 2] = [&[A, B, AB], &[A, B, C]];
     let whole = [Some(0), Some(1), Some(2)];
     let alloc = rt.alloc();
     let strict = both(FIVE, 0);

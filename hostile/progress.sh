@@ -107,7 +107,7 @@ wait $survey
 as "a survey ends with 0, and" test $? = 0
 as "pv -d of a survey says how far each image is" sh -c "tr '\r' '\n' <shown | grep -q 'a.img.*%' && grep -q 'ETA ' shown"
 
-slower 8
+slower 4
 as "reraid-mount" reraid-mount $set look "${images[@]/#/slow/}"
 as "it says how a copy shows what is left, and is gone on with" grep -qx "to copy it, to see what is left, and to go on where it was ended: ddrescue look/volume FILE FILE.map" before
 pv -f -i 0.5 -w 120 look/volume 2>shown >copy

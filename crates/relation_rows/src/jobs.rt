@@ -1,7 +1,7 @@
 //! Runs of the command `relations` over images in memory.
 ghost use Rattle.std.specs.Prelude.{◌≤◌, ◌<◌, IfSome, IsTrue};
 
-use crate::objects::{Tall, attached, images_of, join};
+use crate::objects::{Tall, images_of};
 use crate::sectors::{A, AB, B, C, CD, D, E, F, NONE, P, Q, SEVEN, Terms};
 use arrayvec::ArrayVec;
 use command_words::{Form, MOST_RELATED, RelationWords};
@@ -12,10 +12,7 @@ use run_ends::Stop;
 use std::alloc::Global;
 use std::process::Abort;
 use std::test::Fail;
-use test_objects::Counted;
-
-/// A step that no word names: 2^55.
-const FAR: u64 = 36_028_797_018_963_968;
+use test_objects::{Counted, FAR, are_below, join};
 
 /// What is asked for where no word names it.
 fn plain() -> RelationWords {
@@ -57,7 +54,7 @@ fn run<R: Abort, I: Images, K: Sink>(
     asked: RelationWords,
     sink: &mut K,
 ) -> Option<Stop> {
-    attached(rt, images, count);
+    assert!(rt; are_below(images, count, FAR));
     assert!(rt; is_step(asked.step));
     relations(alloc, images, count as usize, asked, sink).err()
 }
@@ -70,7 +67,7 @@ fn says<R: Abort>(
     asked: RelationWords,
     wanted: &str,
 ) -> Result<(), Fail> {
-    let mut images = images_of(rt, alloc, each)?;
+    let mut images = images_of(alloc, each)?;
     let mut sink = MemSink::new(alloc, 16_384)?;
     assert!(rt; each.len() < 256);
     assert!(rt; run(rt, alloc, &mut images, each.len() as u8, asked, &mut sink).is_none());
@@ -226,8 +223,8 @@ fn a_step_of_two(rt: HostRuntime) -> Result<(), Fail> {
     let alloc = rt.alloc();
     let zeros = vec![in alloc; 0u8; 4097 * SECTOR]?;
     let mut images = MemImages::new(alloc)?;
-    join(&rt, &mut images, "a", &zeros)?;
-    join(&rt, &mut images, "b", &zeros)?;
+    join(&mut images, "a", &zeros)?;
+    join(&mut images, "b", &zeros)?;
     let mut counted = Counted::new(images);
     let mut sink = MemSink::new(alloc, 16_384)?;
     assert!(rt; run(&rt, alloc, &mut counted, 2, plain(), &mut sink).is_none());
@@ -241,7 +238,7 @@ fn a_step_of_two(rt: HostRuntime) -> Result<(), Fail> {
 #[test]
 fn refused_numbers(rt: HostRuntime) -> Result<(), Fail> {
     let alloc = rt.alloc();
-    let mut one = images_of(&rt, alloc, &[&[A]])?;
+    let mut one = images_of(alloc, &[&[A]])?;
     refuses(
         &rt,
         alloc,
@@ -251,7 +248,7 @@ fn refused_numbers(rt: HostRuntime) -> Result<(), Fail> {
         "reraid: images: count given 1 planned 2\n",
     )?;
     let each: [&[Terms]; 65] = [&[A]; 65];
-    let mut many = images_of(&rt, alloc, &each)?;
+    let mut many = images_of(alloc, &each)?;
     refuses(
         &rt,
         alloc,
@@ -260,7 +257,7 @@ fn refused_numbers(rt: HostRuntime) -> Result<(), Fail> {
         plain(),
         "reraid: images: count given 65 planned 64\n",
     )?;
-    let mut two = images_of(&rt, alloc, &[&[A, B, C], &[A, B]])?;
+    let mut two = images_of(alloc, &[&[A, B, C], &[A, B]])?;
     let asked = RelationWords {
         offsets: offsets_of(&rt, &[1]),
         ..plain()
@@ -279,7 +276,7 @@ fn refused_numbers(rt: HostRuntime) -> Result<(), Fail> {
 #[test]
 fn refused_rows(rt: HostRuntime) -> Result<(), Fail> {
     let alloc = rt.alloc();
-    let mut two = images_of(&rt, alloc, &[&[A, B, C], &[A, B]])?;
+    let mut two = images_of(alloc, &[&[A, B, C], &[A, B]])?;
     let asked = RelationWords {
         end: Some(2),
         offsets: offsets_of(&rt, &[1, 1]),
@@ -312,7 +309,7 @@ fn refused_rows(rt: HostRuntime) -> Result<(), Fail> {
 #[test]
 fn images_that_fail(rt: HostRuntime) -> Result<(), Fail> {
     let alloc = rt.alloc();
-    let mut images = images_of(&rt, alloc, &[&[A, E, A, E, B], &[A, E, B, E, B]])?;
+    let mut images = images_of(alloc, &[&[A, E, A, E, B], &[A, E, B, E, B]])?;
     images.fail_call(8)?;
     let mut sink = MemSink::new(alloc, 16_384)?;
     let asked = RelationWords {
@@ -334,7 +331,7 @@ fn rows_that_are_read_together(rt: HostRuntime) -> Result<(), Fail> {
     let mut second: [Terms; 300] = [A; 300];
     second[255] = SEVEN;
     first[256] = NONE;
-    let images = images_of(&rt, alloc, &[&first, &second])?;
+    let images = images_of(alloc, &[&first, &second])?;
     let mut counted = Counted::new(images);
     let mut sink = MemSink::new(alloc, 16_384)?;
     assert!(rt; run(&rt, alloc, &mut counted, 2, plain(), &mut sink).is_none());
@@ -351,7 +348,7 @@ fn rows_that_are_read_together(rt: HostRuntime) -> Result<(), Fail> {
 fn rows_that_cannot_be_read_together(rt: HostRuntime) -> Result<(), Fail> {
     let alloc = rt.alloc();
     let same: [Terms; 300] = [A; 300];
-    let mut images = images_of(&rt, alloc, &[&same, &same])?;
+    let mut images = images_of(alloc, &[&same, &same])?;
     images.fail_call(6)?;
     let mut sink = MemSink::new(alloc, 16_384)?;
     let stop = run(&rt, alloc, &mut images, 2, plain(), &mut sink);
@@ -364,7 +361,7 @@ fn rows_that_cannot_be_read_together(rt: HostRuntime) -> Result<(), Fail> {
 #[test]
 fn an_output_that_fails(rt: HostRuntime) -> Result<(), Fail> {
     let alloc = rt.alloc();
-    let mut images = images_of(&rt, alloc, &[&[A, A, B], &[A, B, B]])?;
+    let mut images = images_of(alloc, &[&[A, A, B], &[A, B, B]])?;
     let mut sink = MemSink::new(alloc, 16_384)?;
     sink.fail_call(1, 5)?;
     let stop = run(&rt, alloc, &mut images, 2, plain(), &mut sink);

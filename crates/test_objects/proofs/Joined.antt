@@ -1,10 +1,11 @@
--- An image that is added may be attached by its name.
-use Rattle.std.proofs.Common.{ℕ, zero, suc, ◌≡◌, ◌<◌, ◌≤◌, nat_lt, not, true, Bool, cond, Option, Some, None, List, [], ◌∷◌, ◌++◌, IsTrue, refl, ap, length, slice_get, arith}
+-- An image that is added may be attached by its name, and what holds of each image by its number holds of all.
+use Rattle.std.proofs.Common.{ℕ, zero, suc, ◌≡◌, ◌<◌, ◌≤◌, nat_lt, not, true, Bool, cond, Option, Some, None, List, [], ◌∷◌, ◌++◌, IsTrue, refl, ap, length, slice_get, All, IsSomeAnd, arith}
 use Rattle.std.specs.List.{position_or_len}
 use Rattle.std.specs.Option.{is_some, option_map}
 use Rattle.std.specs.Str.{bytes_eq}
 use Rattle.std.proofs.lemmas.Bool.Decides.{nat_tests}
 use Rattle.std.proofs.lemmas.Grind.{common_steps}
+use Rattle.std.proofs.lemmas.List.Elements.{All-cons, All-nil}
 use Rattle.std.proofs.lemmas.List.Folds.{position_or_len_push}
 use Rattle.std.proofs.lemmas.List.Sums.{prefix_len-le-length}
 use Rattle.std.proofs.lemmas.Slice.Eq.{bytes_eq-Decides}
@@ -35,6 +36,23 @@ past [] n none = omega arith
 past (x ∷ xs) zero none = absurd (cc)
 past (x ∷ xs) (suc n) none = let rest : length xs ≤ n = past xs n none in omega (arith, rest)
 
--- where no image has the number 16, one more may be attached
-pub few : (attached : List Image) (sectors : Option ℕ) (none : Bool) → sectors ≡ option_map (λ a. a.sectors) (slice_get attached 16) → is_some sectors ≡ not none → none ≡ true → length attached < 65536
-few attached sectors none is some e = let most : length attached ≤ 16 = past attached 16 (absent (slice_get attached 16) sectors none is some e) in omega (arith, most)
+-- where no image has the number 64, one more may be attached
+pub few : (attached : List Image) (sectors : Option ℕ) (none : Bool) → sectors ≡ option_map (λ a. a.sectors) (slice_get attached 64) → is_some sectors ≡ not none → none ≡ true → length attached < 65536
+few attached sectors none is some e = let most : length attached ≤ 64 = past attached 64 (absent (slice_get attached 64) sectors none is some e) in omega (arith, most)
+
+-- n images are attached, and each is such
+pub all_such : (P : Image → Type 0) (attached : List Image) (n : ℕ) → ((k : ℕ) → k < n → IsSomeAnd (slice_get attached k) P) → slice_get attached n ≡ None → (length attached ≡ n) × All P attached
+all_such P [] zero each none = (refl, All-nil P)
+all_such P [] (suc n) each none = absurd (each 0 (omega arith))
+all_such P (x ∷ xs) zero each none = absurd (cc)
+all_such P (x ∷ xs) (suc n) each none =
+    let rest : (length xs ≡ n) × All P xs = all_such P xs n (λ k h. each (suc k) (omega arith)) none in
+    (omega (arith, rest.0), All-cons P x xs (each 0 (omega arith)) rest.1)
+
+-- and each reaches to the end
+pub all_long : (attached : List Image) (end n : ℕ) → ((k : ℕ) → k < n → IsSomeAnd (slice_get attached k) (λ image. end ≤ image.sectors)) → slice_get attached n ≡ None → (length attached ≡ n) × All (λ image. end ≤ image.sectors) attached
+all_long attached end n each none = all_such (λ image. end ≤ image.sectors) attached n each none
+
+-- and each is short enough
+pub all_below : (attached : List Image) (most n : ℕ) → ((k : ℕ) → k < n → IsSomeAnd (slice_get attached k) (λ image. image.sectors < most)) → slice_get attached n ≡ None → (length attached ≡ n) × All (λ image. image.sectors < most) attached
+all_below attached most n each none = all_such (λ image. image.sectors < most) attached n each none

@@ -12,12 +12,12 @@ pub const NAMES: [&str; 24] = [
     "t", "u", "v", "w", "x",
 ];
 
-/// Adds an image beside at most 16 and attaches it, where memory is left and no call is to fail.
+/// Adds an image beside at most 64 and attaches it, where memory is left and no call is to fail.
 #[tactic(auto, using(crate::proofs::Joined::joined, crate::proofs::Joined::few))]
 pub fn join(images: &mut MemImages, name: &str, bytes: &[u8]) -> Result<(), Memory>
     ensures one { OnOk result (length (seen_of images.new).attached ≡ length (seen_of images.old).attached + 1) }
 {
-    if images.length(16).is_some() {
+    if images.length(64).is_some() {
         return Err(Memory);
     }
     images.add(name, bytes)?;

@@ -1,5 +1,5 @@
 //! What is written of sets where the data of images begin at different sectors, and what of such sets is refused.
-use crate::objects::{are_sectors, near};
+use crate::objects::are_sectors;
 use image_source::{MemImages, MemSink};
 use raid_params::GeoFault;
 use run_ends::{Refusal, Stop};
@@ -7,7 +7,7 @@ use set_jobs::{map, rebuild, write};
 use std::alloc::Global;
 use std::process::Abort;
 use std::test::Fail;
-use test_objects::attached;
+use test_objects::{FAR, are_below, attached};
 use value_text::read_set;
 
 /// Three members of an array whose data begin at sector 1 of the first image, and at sector 0 of the others.
@@ -25,7 +25,7 @@ fn write_stop<R: Abort>(
     word: &[u8],
     sink: &mut MemSink,
 ) -> Result<Option<Stop>, Fail> {
-    near(rt, images, count);
+    assert!(rt; are_below(images, count, FAR));
     match read_set(word) {
         Some(set) => Ok(write(alloc, images, count as usize, &set, None, sink).err()),
         None => Err("a set".into()),
@@ -42,7 +42,7 @@ fn rebuild_stop<R: Abort>(
     slot: u8,
     sink: &mut MemSink,
 ) -> Result<Option<Stop>, Fail> {
-    near(rt, images, count);
+    assert!(rt; are_below(images, count, FAR));
     match read_set(word) {
         Some(set) => Ok(rebuild(alloc, images, count as usize, &set, None, slot, sink).err()),
         None => Err("a set".into()),
@@ -59,7 +59,7 @@ fn map_stop<R: Abort>(
     sector: u64,
     sink: &mut MemSink,
 ) -> Result<Option<Stop>, Fail> {
-    near(rt, images, count);
+    assert!(rt; are_below(images, count, FAR));
     match read_set(word) {
         Some(set) => Ok(map(alloc, images, count as usize, &set, None, sector, sink).err()),
         None => Err("a set".into()),

@@ -1,7 +1,6 @@
 //! Pages of mirrors that were worked out by hand, over images in memory.
 ghost use Rattle.near_search.specs.Asks.{HasImages, IsNearAsk};
 
-use crate::objects::all_reach;
 use arrayvec::ArrayVec;
 use near_mirror::{CopyLayout, Copying, FEWEST_COPIES, MOST_COPIES, near_line};
 use near_search::{NearAsk, NearFault, NearPage, near_page};
@@ -10,7 +9,7 @@ use raid_params::{MOST, is_chunk};
 use std::alloc::Global;
 use std::process::Abort;
 use std::test::Fail;
-use test_objects::attached;
+use test_objects::{all_reach, attached};
 
 /// Two copies of a layout.
 fn two(copying: Copying) -> CopyLayout {

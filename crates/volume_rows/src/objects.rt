@@ -1,5 +1,5 @@
 //! Sets, images and sinks in memory, as the tests have them.
-ghost use Rattle.std.specs.Prelude.{◌≡◌, ◌≤◌, ◌<◌, length, All, IsSomeAnd, IsTrue, None, slice_get};
+ghost use Rattle.std.specs.Prelude.{◌≡◌, ◌<◌, length, All, None};
 ghost use Rattle.near_volume.specs.Mirrored.{IsMirrored};
 ghost use Rattle.rescue_map.specs.Damaged.{IsDamaged};
 ghost use Rattle.rescue_map.specs.Salvaged.{IsSalvaged};
@@ -13,14 +13,11 @@ use raid_params::{Geometry, Head, Level, Pattern, Slots, Syndrome, Wide};
 use std::alloc::Global;
 use std::process::Abort;
 use std::test::Fail;
-use test_objects::join;
+use test_objects::{FAR, all_reach, are_below, join};
 use virtual_volume::VolumeFault;
 
 /// An empty slot.
 pub const NO: Option<u8> = None;
-
-/// Sectors of a member from here on are refused.
-const FAR: u64 = 36_028_797_018_963_968;
 
 /// A set of these slots, in chunks of `chunk` sectors from sector 0 of the images on.
 pub fn set_of<R: Abort>(
@@ -92,81 +89,11 @@ pub fn two_of_ones(alloc: Global, bytes: usize) -> Result<MemImages, Fail> {
     Ok(images)
 }
 
-fn reaches<I: Images>(images: &I, image: u32, end: u64) -> bool
-    ensures { IsTrue result → IsSomeAnd (slice_get (I.seen images.now).attached image) (λ a. end ≤ a.sectors) }
-{
-    match images.length(image) {
-        Some(sectors) => end <= sectors,
-        None => false,
-    }
-}
-
-/// Whether `count` images are attached, and each reaches to the end.
-pub fn all_reach<I: Images>(images: &I, count: u8, end: u64) -> bool
-    ensures { IsTrue result → (length (I.seen images.now).attached ≡ count) × All (λ a. end ≤ a.sectors) (I.seen images.now).attached }
-{
-    for i in 0..count {
-        if !reaches(images, i as u32, end) {
-            return false;
-        }
-    }
-    images.length(count as u32).is_none()
-}
-
-/// Whether `count` images are attached.
-fn are_attached<I: Images>(images: &I, count: u8) -> bool
-    ensures { IsTrue result → (length (I.seen images.now).attached ≡ count) × All (λ a. a.sectors < FAR) (I.seen images.now).attached }
-{
-    for i in 0..count {
-        if !is_near(images, i as u32) {
-            return false;
-        }
-    }
-    images.length(count as u32).is_none()
-}
-
-fn is_near<I: Images>(images: &I, image: u32) -> bool
-    ensures { IsTrue result → IsSomeAnd (slice_get (I.seen images.now).attached image) (λ a. a.sectors < FAR) }
-{
-    match images.length(image) {
-        Some(sectors) => sectors < FAR,
-        None => false,
-    }
-}
-
-/// Looks whether `count` images are attached, of which none is too long.
-pub fn near<R: Abort, I: Images>(rt: &R, images: &I, count: u8)
-    ensures { (length (I.seen images.now).attached ≡ count) × All (λ a. a.sectors < FAR) (I.seen images.now).attached }
-{
-    assert!(rt; are_attached(images, count));
-}
-
-/// Whether `count` images are attached, each short enough for an offset of its own.
-fn are_short<I: Images>(images: &I, count: u8) -> bool
-    ensures { IsTrue result → (length (I.seen images.now).attached ≡ count) × All (λ a. a.sectors < BASES_END) (I.seen images.now).attached }
-{
-    for i in 0..count {
-        if !is_short(images, i as u32) {
-            return false;
-        }
-    }
-    images.length(count as u32).is_none()
-}
-
-fn is_short<I: Images>(images: &I, image: u32) -> bool
-    ensures { IsTrue result → IsSomeAnd (slice_get (I.seen images.now).attached image) (λ a. a.sectors < BASES_END) }
-{
-    match images.length(image) {
-        Some(sectors) => sectors < BASES_END,
-        None => false,
-    }
-}
-
 /// Looks whether `count` images are attached that may be padded.
 pub fn pad<R: Abort, I: Images>(rt: &R, images: &I, count: u8)
     ensures { (length (I.seen images.now).attached ≡ count) × All (λ a. a.sectors < BASES_END) (I.seen images.now).attached }
 {
-    assert!(rt; are_short(images, count));
+    assert!(rt; are_below(images, count, BASES_END));
 }
 
 /// Looks whether the volume of a set can be written, over `count` images.

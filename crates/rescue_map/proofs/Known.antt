@@ -1,5 +1,6 @@
 -- Good sectors, and the cells that are known by them.
 use Rattle.std.proofs.Common.{ℕ, zero, suc, ◌≡◌, ◌+◌, ◌*◌, ◌<◌, ◌≤◌, ◌==◌, ◌||◌, ◌&&◌, ◌⊎◌, inl, inr, max, Bool, true, false, IsTrue, List, [], ◌∷◌, length, get_or, refl, sym, ap, ◌∙◌, subst, arith, Option, Some, None}
+use Rattle.std.proofs.lemmas.Bool.{cases_order}
 use Rattle.std.proofs.lemmas.Bool.Decides.{nat_tests}
 use Rattle.std.specs.List.{fold, list_all, range_with_len}
 use Rattle.raid_params.specs.Bases.{greatest_base}
@@ -84,6 +85,21 @@ one_of (Some section) first count sector are low high = λ byte from to. are byt
 
 pub good_one : (sections : List Section) (image first count sector : ℕ) → AreGood sections image first count → first ≤ sector → sector < first + count → is_good sections image sector ≡ true
 good_one sections image first count sector are low high = good_is sections image sector (one_of (section_of sections image) first count sector are low high)
+
+-- sectors that are good one by one are good together
+all_of : (section : Option Section) (first count : ℕ) → ((sector : ℕ) → first ≤ sector → sector < first + count → is_good_in section sector ≡ true) → AreGoodIn section first count
+all_of None first count all = tt
+all_of (Some section) first zero all = λ byte from to. absurd (omega arith)
+all_of (Some section) first (suc count) all = λ byte from to.
+    let here : byte < first * 512 + 512 → IsTrue (is_read section.blocks byte) = λ low. good_back (Some section) first (all first (omega arith) (omega arith)) byte from low in
+    let later : first * 512 + 512 ≤ byte → IsTrue (is_read section.blocks byte) = λ past. all_of (Some section) (first + 1) count (λ sector low high. all sector (omega arith) (omega arith)) byte (omega arith) (omega arith) in
+    elim (cases_order byte (first * 512 + 512)) [
+      | inl is ↦ later (omega arith)
+      | inr unlike ↦ elim unlike [ inl low ↦ here low | inr past ↦ later (omega arith) ]
+    ]
+
+pub good_together : (sections : List Section) (image first count : ℕ) → ((sector : ℕ) → first ≤ sector → sector < first + count → is_good sections image sector ≡ true) → AreGood sections image first count
+good_together sections image first count all = all_of (section_of sections image) first count all
 
 and_not : (b : Bool) (section : Option Section) (sector : ℕ) → b ≡ false → (IsGoodIn section sector → b ≡ true) → is_good_in section sector ≡ false
 and_not b section sector not then = of_test (is_good_in section sector) refl

@@ -3,7 +3,7 @@ use Rattle.std.proofs.Common.{ℕ, suc, ◌≡◌, ◌+◌, ◌<◌, ◌≤◌, 
 use Rattle.raid_params.specs.declared.wide.Wide.{Wide}
 use Rattle.rescue_text.specs.declared.section.Section.{Section}
 use Rattle.std.proofs.Common.{◌⊎◌, inl, inr, get_or, subst, sym, All}
-use Rattle.std.proofs.lemmas.List.{length-map}
+use Rattle.std.proofs.lemmas.List.{get_or-map, length-map}
 use Rattle.std.proofs.lemmas.List.Elements.{All-nil, All-cons, All-head, All-tail}
 use Rattle.std.specs.List.{AllWithin}
 use Rattle.address_map.proofs.Heads.{whole_below}
@@ -16,7 +16,7 @@ use Rattle.raid_params.specs.declared.types.Geometry.{Geometry}
 use Rattle.raid_terms.specs.Address.{LiesAt, home_sector, home_slot}
 use Rattle.rescue_map.specs.Damaged.{damaged, image_sector, is_good, known_slot}
 use Rattle.rescue_text.specs.Good.{AreGood}
-use Rattle.rescue_map.proofs.Known.{good_one}
+use Rattle.rescue_map.proofs.Known.{good_one, good_together}
 
 -- what a slot holds
 pub known_is : (sections : List Section) (set : Wide) (t image : ℕ) → is_good sections image (image_sector set image t) ≡ true → known_slot sections set t (Some image) ≡ Some image
@@ -30,6 +30,22 @@ pub known_all : (sections : List Section) (set : Wide) (first count t image at :
     known_slot sections set t (Some image) ≡ Some image
 known_all sections set first count t image at is are low high =
     known_is sections set t image (good_one sections image at count (image_sector set image t) are (omega arith) (omega arith))
+
+-- and where each is known, all sectors are good
+known_good : (sections : List Section) (set : Wide) (t image : ℕ) → known_slot sections set t (Some image) ≡ Some image → is_good sections image (image_sector set image t) ≡ true
+known_good sections set t image known = of_test (is_good sections image (image_sector set image t)) refl
+  where
+    of_test : (b : Bool) → is_good sections image (image_sector set image t) ≡ b → b ≡ true
+    of_test true is = refl
+    of_test false is = let none = unknown_is sections set t image is in absurd (cc)
+
+pub known_together : (sections : List Section) (set : Wide) (first count image at : ℕ) → at ≡ image_sector set image first →
+    ((t : ℕ) → first ≤ t → t < first + count → known_slot sections set t (Some image) ≡ Some image) → AreGood sections image at count
+known_together sections set first count image at is all =
+    good_together sections image at count (λ sector low high.
+    let base = get_or set.bases.items image set.geo.head.offset in
+    let same : base + (sector - base) ≡ sector = omega arith in
+    subst (λ (k : ℕ). is_good sections image k ≡ true) same (known_good sections set (sector - base) image (all (sector - base) (omega arith) (omega arith))))
 
 -- the member sector of a volume sector lies before the end
 pub home_before : (head : Head) (end slot sector v : ℕ) → IsTrue (is_valid_head head) → LiesAt head slot sector v → v < volume_sectors head end → head.offset + sector < end
@@ -54,6 +70,9 @@ home_in sections set slot sector v row valid members lies is =
 pub all_known : (f : Option ℕ → Option ℕ) (slots : List (Option ℕ)) → AllWithin (λ held. f held ≡ held) slots 0 (length slots) → map f slots ≡ slots
 all_known f [] all = refl
 all_known f (slot ∷ slots) all = cc (all 0 None (omega arith) (omega arith), all_known f slots (λ k d low high. all (suc k) d (omega arith) (omega arith)))
+
+pub known_at : (f : Option ℕ → Option ℕ) (slots : List (Option ℕ)) (k : ℕ) → map f slots ≡ slots → k < length slots → f (get_or slots k None) ≡ get_or slots k None
+known_at f slots k same inside = sym (get_or-map f slots k None None inside) ∙ ap (λ (l : List (Option ℕ)). get_or l k None) same
 
 -- the head of a row is that of the set
 pub row_level : (sections : List Section) (set : Wide) (t : ℕ) (row : Geometry) → row ≡ damaged sections set t → redundancy row.head.level ≡ redundancy set.geo.head.level

@@ -1,5 +1,5 @@
 //! Which cells of a row are known.
-ghost use Rattle.std.specs.Prelude.{nat_lt, ℕ, ◌≡◌, ◌+◌, ◌<◌, ◌≤◌, ◌^◌, true};
+ghost use Rattle.std.specs.Prelude.{nat_lt, ℕ, ◌≡◌, ◌+◌, ◌<◌, ◌≤◌, ◌^◌, ◌↔◌, ◌≢◌, IsTrue};
 ghost use Rattle.raid_params.specs.Size.{redundancy};
 ghost use Rattle.raid_params.specs.Slots.{empties};
 ghost use Rattle.rescue_map.specs.Damaged.{damaged as damaged_of, image_sector as image_sector_of, known_slot as known_slot_of, AreAllGood};
@@ -60,7 +60,7 @@ pub(crate) fn damaged(set: &Wide, rescue: &Rescue, sector: u64) -> Geometry
 pub fn are_all_good(set: &Wide, rescue: &Rescue, first: u64, count: u64) -> bool
     requires some { 0 < count }
     requires near { set.now.geo.head.offset + (first + count) < 2 ^ 55 }
-    ensures { result ≡ true → (t : ℕ) → first ≤ t → t < first + count → AreAllGood rescue.now set.now t }
+    ensures { IsTrue result ↔ ((t : ℕ) → first ≤ t → t < first + count → AreAllGood rescue.now set.now t) }
 {
     set.geo
         .slots
@@ -72,7 +72,7 @@ pub fn are_all_good(set: &Wide, rescue: &Rescue, first: u64, count: u64) -> bool
 fn are_known(set: &Wide, rescue: &Rescue, first: u64, count: u64, held: Option<u8>) -> bool
     requires some { 0 < count }
     requires near { set.now.geo.head.offset + (first + count) < 2 ^ 55 }
-    ensures { result ≡ true → (t : ℕ) → first ≤ t → t < first + count → known_slot_of rescue.now set.now t held ≡ held }
+    ensures { IsTrue result ↔ ((t : ℕ) → first ≤ t → t < first + count → known_slot_of rescue.now set.now t held ≡ held) }
 {
     match held {
         Some(image) => rescue.are_good(image, image_sector(set, image, first), count),
@@ -102,6 +102,7 @@ pub(crate) fn known_front(
     ensures some { 1 ≤ result }
     ensures most { result ≤ most }
     ensures known { (t : ℕ) → first ≤ t → t < first + result → known_slot_of rescue.now set.now t held ≡ held }
+    ensures longest { result < most → known_slot_of rescue.now set.now (first + result) held ≢ held }
 {
     if are_known(set, rescue, first, most, held) {
         return most;

@@ -81,7 +81,7 @@ returns c = λ is.
     let valid = testable_head set.geo c.requires.set.shape in
     let row = c.row_sectors-row.result in
     good_beside damage.rescue.now set damage.end c.args.first c.args.count (c.args.first / row) ((c.args.first + c.args.count - 1) / row + 1 - c.args.first / row) valid
-    (covers set.geo.head damage.end c.args.first c.args.count row valid c.row_sectors-row.ensures c.requires.some c.requires.within) (c.are_all_good.ensures is)
+    (covers set.geo.head damage.end c.args.first c.args.count row valid c.row_sectors-row.ensures c.requires.some c.requires.within) (c.are_all_good.ensures.0 is)
 
 pub row_sectors-row-requires : goal.row_sectors-row-requires
 row_sectors-row-requires c = testable_head c.args.damage.now.set.now.geo c.requires.set.shape

@@ -8,6 +8,7 @@ invariant-loop-known l = record {
   less : l.known ≤ l.beyond;
   within : l.beyond ≤ l.most;
   front : (t : ℕ) → l.first ≤ t → t < l.first + l.known → known_slot l.rescue l.set t l.held ≡ l.held;
+  past : ((t : ℕ) → l.first ≤ t → t < l.first + l.beyond → known_slot l.rescue l.set t l.held ≡ l.held) → ⊥;
 }
 
 abbrev pub decreases-loop-known : goal.decreases-loop-known

@@ -27,4 +27,4 @@ returns-then-are_all_good-clause-none c =
     let size = c.min-run.ensures in
     let below = mod_below c.args.sector set.geo.head.chunk (some_chunk set.geo.head c.requires.set.head) in
     good_kept damage.rescue.now set damage.end c.in-Some.home.slot c.in-Some.home.sector c.args.sector c.min-run.result c.requires.set c.in-Some.ensures.lies (omega arith)
-    (c.are_all_good.ensures c.if-are_all_good.true)
+    (c.are_all_good.ensures.0 c.if-are_all_good.true)

@@ -65,7 +65,7 @@ returns-then-are_all_good t c =
     let d : c.data_blocks.result ≡ data_blocks set.geo.head = c.data_blocks.ensures in
     let e = parts c.args.first c.args.count (set.geo.head.chunk * data_blocks set.geo.head) in
     let inside = rows_within set damage.end (c.args.first + c.args.count) c.requires.within in
-    let none = none_lost damage.rescue.now set damage.end c.args.first c.args.count c.requires.set (c.are_all_good.ensures c.if-are_all_good.true) in
+    let none = none_lost damage.rescue.now set damage.end c.args.first c.args.count c.requires.set (c.are_all_good.ensures.0 c.if-are_all_good.true) in
     let told : OnOk c.pass.result (HasRuns lost sectors (c.args.first * (set.geo.head.chunk * c.data_blocks.result) + c.args.count * (set.geo.head.chunk * c.data_blocks.result)) c.pass.new.self) =
     c.pass.ensures lost sectors
     (subst (λ (k : ℕ). HasRuns lost sectors (c.args.first * (set.geo.head.chunk * k)) c.args.runs.now) (sym d) c.requires.runs)

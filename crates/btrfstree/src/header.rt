@@ -1,13 +1,22 @@
 //! The header of a tree block.
 
 ghost use Rattle.std.specs.Prelude.{◌≡◌};
-ghost use Rattle.btrfstree.specs.Header.{block_of, header_of, is_block, is_chunk_leaf, is_counted, is_mark, tree_block};
+ghost use Rattle.btrfstree.specs.Header.{block_of, has_flags, header_of, is_block, is_chunk_leaf, is_counted, is_mark, tree_block};
 
 use sector_fields::{SECTOR, has_bytes, u32_le, u64_le, uuid_at};
 use uuid::Uuid;
 
 /// The highest level of a tree block.
 const HIGHEST_LEVEL: u8 = 7;
+
+/// Flags have the bits below this one; those above are the revision of back references.
+const FLAGS_END: u64 = 1 << 56;
+
+/// The flags of a tree block that was written.
+const WRITTEN: u64 = 1;
+
+/// Those of one that was written and is being moved.
+const WRITTEN_RELOC: u64 = 3;
 
 /// The latest revision of back references.
 const LATEST_REVISION: u8 = 1;
@@ -46,9 +55,9 @@ pub struct TreeBlock {
 
 /// The tree block that begins in the sector, if it counts (btrfs On-disk Format, Header), of whichever file system. None
 /// where none begins: an identifier of zeros alone; a superblock, which has its own there; an address of 0, or that is no
-/// multiple of 4,096; a revision of back references above 1; more than 2,617 items; or a level above 7. None also where
-/// its address begins no stretch of 64 KiB, and it is no leaf of the tree of chunks. Its checksum, which covers the whole
-/// block, is not looked at.
+/// multiple of 4,096; other flags than WRITTEN alone or with RELOC; a revision of back references above 1; more than 2,617
+/// items; or a level above 7. None also where its address begins no stretch of 64 KiB, and it is no leaf of the tree of
+/// chunks. Its checksum, which covers the whole block, is not looked at.
 #[tactic(auto, unfolding(crate::specs::Header::tree_block))]
 pub fn read_block(sector: &[u8; SECTOR]) -> Option<TreeBlock>
     ensures { result ≡ tree_block sector.now }
@@ -78,9 +87,18 @@ fn is_block(sector: &[u8; SECTOR]) -> bool
         && (0 < u64_le(sector, 32) || 0 < u64_le(sector, 40))
         && 0 < address
         && address % 4096 == 0
+        && has_flags(u64_le(sector, 56))
         && sector[63] <= LATEST_REVISION
         && u32_le(sector, 96) <= MOST_ITEMS
         && sector[100] <= HIGHEST_LEVEL
+}
+
+/// Whether a tree block has these flags, above which its revision of back references stands.
+#[tactic(auto, unfolding(crate::specs::Header::has_flags))]
+fn has_flags(flags: u64) -> bool
+    ensures { result ≡ has_flags flags }
+{
+    flags % FLAGS_END == WRITTEN || flags % FLAGS_END == WRITTEN_RELOC
 }
 
 /// The fields of a header, by their places in the sector.

@@ -1,6 +1,6 @@
 -- How the words of a command line begin: its operands one after the other, up to `--`.
-use Rattle.std.proofs.Common.{◌≡◌, ℕ, ◌≤◌, ◌+◌, ◌==◌, ◌⊎◌, inl, inr, Bool, true, false, cond, List, [], ◌∷◌, ◌++◌, All, Option, None, Some, length, map, codes, refl, sym, ap, ◌∙◌, subst, arith}
-use Rattle.std.specs.List.{AllByRecursion, IsDistinct, find}
+use Rattle.std.proofs.Common.{◌≡◌, ℕ, ◌≤◌, ◌+◌, ◌⊎◌, inl, inr, Bool, true, false, cond, List, [], ◌∷◌, ◌++◌, All, Option, None, Some, length, map, codes, refl, sym, ap, ◌∙◌, subst, arith}
+use Rattle.std.specs.List.{AllByRecursion, IsDistinct, find, list_any}
 use Rattle.std.specs.Set.{is_member}
 use Rattle.std.specs.Str.{bytes_eq}
 use Rattle.std.proofs.lemmas.Bool.{false≢true}
@@ -88,35 +88,34 @@ is_verb Relations = refl
 pub one_verb : (a b : Verb) → verb_word a ≡ verb_word b → a ≡ b
 one_verb a b e = let same : Some a ≡ Some b = sym (is_verb a) ∙ ap verb_by e ∙ is_verb b in cc
 
--- a word begins with a dash
-begins_dashed : List ℕ → Bool
-begins_dashed [] = false
-begins_dashed (byte ∷ bytes) = byte == 45
+-- a word asks for something alone
+stands_alone : List ℕ → Bool
+stands_alone word = list_any (λ alone. bytes_eq word alone) (codes "--help" ∷ codes "-h" ∷ codes "help" ∷ codes "--version" ∷ [])
 
-undashed : (verb : Verb) → begins_dashed (verb_word verb) ≡ false
-unfolding begins_dashed
-undashed Survey = refl
-undashed ListVerb = refl
-undashed Check = refl
-undashed Map = refl
-undashed Write = refl
-undashed Rebuild = refl
-undashed Sample = refl
-undashed Classes = refl
-undashed Mirrors = refl
-undashed MirrorWrite = refl
-undashed Salvage = refl
-undashed Relations = refl
+is_no_alone : (verb : Verb) → stands_alone (verb_word verb) ≡ false
+unfolding stands_alone
+is_no_alone Survey = refl
+is_no_alone ListVerb = refl
+is_no_alone Check = refl
+is_no_alone Map = refl
+is_no_alone Write = refl
+is_no_alone Rebuild = refl
+is_no_alone Sample = refl
+is_no_alone Classes = refl
+is_no_alone Mirrors = refl
+is_no_alone MirrorWrite = refl
+is_no_alone Salvage = refl
+is_no_alone Relations = refl
 
-dashed : (word : List ℕ) (command : Command) → SaysAlone word command → begins_dashed word ≡ true
-unfolding begins_dashed
-dashed word Help e = ap begins_dashed e
-dashed word Version e = ap begins_dashed e
-dashed word _ e = absurd e
+alone_stands : (word : List ℕ) (command : Command) → SaysAlone word command → stands_alone word ≡ true
+unfolding stands_alone
+alone_stands word Help asks = elim asks [ inl e ↦ ap stands_alone e | inr short ↦ elim short [ inl e ↦ ap stands_alone e | inr e ↦ ap stands_alone e ] ]
+alone_stands word Version e = ap stands_alone e
+alone_stands word _ e = absurd e
 
 -- a command with operands is no word that says something alone
 pub not_alone : (verb : Verb) (command : Command) → SaysAlone (verb_word verb) command → ⊥
-not_alone verb command alone = false≢true (sym (undashed verb) ∙ dashed (verb_word verb) command alone)
+not_alone verb command alone = false≢true (sym (is_no_alone verb) ∙ alone_stands (verb_word verb) command alone)
 
 pub none_alone : (verb : Verb) (words : List (List ℕ)) (command : Command) → IsAlone (verb_word verb ∷ words) command → ⊥
 none_alone verb words command alone =

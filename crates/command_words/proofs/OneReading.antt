@@ -1,11 +1,12 @@
 -- A list of words has one reading.
-use Rattle.std.proofs.Common.{◌≡◌, ℕ, zero, suc, ◌+◌, ◌-◌, ◌≤◌, ◌<◌, inl, inr, List, [], ◌∷◌, ◌++◌, length, map, take, drop, Some, Result, Ok, Err, refl, sym, ap, ◌∙◌, subst, arith, codes}
-use Rattle.std.proofs.lemmas.Bool.{cases_lt}
+use Rattle.std.proofs.Common.{◌≡◌, Bool, true, false, ℕ, zero, suc, ◌+◌, ◌-◌, ◌≤◌, ◌<◌, inl, inr, List, [], ◌∷◌, ◌++◌, length, map, take, drop, Some, Result, Ok, Err, refl, sym, ap, ◌∙◌, subst, arith, codes}
+use Rattle.std.specs.Str.{bytes_eq}
+use Rattle.std.proofs.lemmas.Bool.{cases_lt, false≢true}
 use Rattle.std.proofs.lemmas.List.{take-append-drop}
 use Rattle.command_words.specs.declared.command.Command.{Command}
 use Rattle.command_words.specs.declared.command.Command.TheVariants.{Help, Version}
 use Rattle.command_words.specs.declared.operands.Operand.{Operand}
-use Rattle.command_words.specs.Commands.{BeginsLine, HasOperands, IsCommandLine, IsRefusedWord, Reads, SaysAlone, command_of, verb_word}
+use Rattle.command_words.specs.Commands.{AsksHelp, BeginsLine, HasOperands, IsCommandLine, IsRefusedWord, Reads, SaysAlone, command_of, verb_word}
 use Rattle.command_words.specs.Operands.{operand_word}
 use Rattle.command_words.proofs.LineStarts.{after_verb, dashes_differ, meets, not_alone}
 use Rattle.command_words.proofs.Refusals.{fewer}
@@ -20,12 +21,24 @@ one_with_operands words a b one other =
       | inr more ↦ absurd (dashes_differ more.0 (sym more.3))
     ]
 
+-- no word asks for help and for the version
+is_version : List ℕ → Bool
+is_version word = bytes_eq word (codes "--version")
+
+no_version : (word : List ℕ) → AsksHelp word → is_version word ≡ false
+unfolding is_version
+no_version word asks = elim asks [ inl e ↦ ap is_version e | inr short ↦ elim short [ inl e ↦ ap is_version e | inr e ↦ ap is_version e ] ]
+
+help_no_version : (word : List ℕ) → AsksHelp word → word ≡ codes "--version" → ⊥
+unfolding is_version
+help_no_version word asks e = let test : is_version word ≡ true = ap is_version e in false≢true (sym (no_version word asks) ∙ test)
+
 -- a word alone says one command
 one_alone : (word : List ℕ) (a b : Command) → SaysAlone word a → SaysAlone word b → a ≡ b
 one_alone word Help Help p q = refl
 one_alone word Version Version p q = refl
-one_alone word Help Version p q = let differ : codes "--help" ≡ codes "--version" = sym p ∙ q in cc
-one_alone word Version Help p q = let differ : codes "--version" ≡ codes "--help" = sym p ∙ q in cc
+one_alone word Help Version p q = absurd (help_no_version word p q)
+one_alone word Version Help p q = absurd (help_no_version word q p)
 one_alone word Help _ p q = absurd q
 one_alone word Version _ p q = absurd q
 one_alone word _ b p q = absurd p

@@ -157,7 +157,10 @@ operand_names words command line =
 
 -- a word alone names none
 alone_names : (word : List ℕ) (command : Command) → SaysAlone word command → EndsInNames (word ∷ []) command
-alone_names word Help e = ap (λ (w : List ℕ). names_after (w ∷ [])) e
+alone_names word Help asks = elim asks [
+  | inl e ↦ ap (λ (w : List ℕ). names_after (w ∷ [])) e
+  | inr short ↦ elim short [ inl e ↦ ap (λ (w : List ℕ). names_after (w ∷ [])) e | inr e ↦ ap (λ (w : List ℕ). names_after (w ∷ [])) e ]
+]
 alone_names word Version e = ap (λ (w : List ℕ). names_after (w ∷ [])) e
 alone_names word _ e = absurd e
 

@@ -258,9 +258,13 @@ pub record HasOperands (words : List (List ℕ)) (command : Command) : Type 0 wh
   pub follow : MayFollow names verb
   pub says : command_of verb operands (length operands + 2) ≡ Some command
 
+-- the word asks how the program is used
+abbrev pub AsksHelp : List ℕ → Type 0
+AsksHelp word = (word ≡ codes "--help") ⊎ (word ≡ codes "-h") ⊎ (word ≡ codes "help")
+
 -- the word asks for this alone
 abbrev pub SaysAlone : List ℕ → Command → Type 0
-SaysAlone word Help = word ≡ codes "--help"
+SaysAlone word Help = AsksHelp word
 SaysAlone word Version = word ≡ codes "--version"
 SaysAlone word _ = ⊥
 

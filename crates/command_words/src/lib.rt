@@ -1,8 +1,8 @@
 //! The command line: its words, and what they ask for.
 //!
 //! The words are a command, its operands `name=value` in any order, each at most once, the word
-//! `--`, and the names of the images; or `--help` or `--version` alone. Any other list of words asks for nothing: the first word with
-//! which no command goes on is the refused one, and so is a `--help` or `--version` that another word follows.
+//! `--`, and the names of the images; or `--help`, `-h`, `help` or `--version` alone. Any other list of words asks for nothing: the
+//! first word with which no command goes on is the refused one, and so is one of these four words that another word follows.
 //!
 //! `reraid_cli` calls [`read_words`] first of all, and `reraid_nbd_cli`, whose words have no command in front, [`read_words_after`]. The
 //! operands, their values and their limits stand in

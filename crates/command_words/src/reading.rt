@@ -12,7 +12,7 @@ use crate::word::Word;
 use arrayvec::ArrayVec;
 
 /// Reads the words: a command, its operands in any order, each at most once, then `--` and the
-/// names of the images; or `--help` or `--version` alone. It takes no memory.
+/// names of the images; or `--help`, `-h`, `help` or `--version` alone. It takes no memory.
 ///
 /// Where they are no such list, the answer is the number of the refused word, counted from 1: with the
 /// words before it some command with its operands begins, and with it none. It is one more than the words are where the
@@ -48,7 +48,7 @@ fn read_alone(word: &Word) -> Option<Command>
     ensures { MatchOption result ((command : CommandOf) → SaysAlone word.now command → ⊥) (λ command. SaysAlone word.now command) }
 {
     match word.as_str() {
-        "--help" => Some(Command::Help),
+        "--help" | "-h" | "help" => Some(Command::Help),
         "--version" => Some(Command::Version),
         _ => None,
     }

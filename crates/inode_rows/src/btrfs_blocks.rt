@@ -47,6 +47,20 @@ fn blocks_of_dump_tree(rt: HostRuntime) {
     assert!(rt; read_block(&sector_of(&SINGLE_HEADER)) == made(5_439_488, 5, false));
 }
 
+// Written is 1, and being moved 2: a block has the first, or both.
+#[test]
+fn flags_of_blocks(rt: HostRuntime) {
+    assert!(rt; read_block(&changed(&HEADER, 56, 3)) == made(30_474_240, 7, false));
+    assert!(rt; read_block(&changed(&LEAF_FRONT, 56, 3)) == made(22_036_480, 6, true));
+    assert!(rt; read_block(&changed(&HEADER, 63, 0)) == made(30_474_240, 7, false));
+    assert!(rt; read_block(&changed(&HEADER, 56, 0)).is_none());
+    assert!(rt; read_block(&changed(&HEADER, 56, 2)).is_none());
+    assert!(rt; read_block(&changed(&HEADER, 56, 5)).is_none());
+    assert!(rt; read_block(&changed(&HEADER, 57, 1)).is_none());
+    assert!(rt; read_block(&changed(&HEADER, 62, 128)).is_none());
+    assert!(rt; read_block(&changed(&LEAF_FRONT, 56, 0)).is_none());
+}
+
 #[test]
 fn no_blocks(rt: HostRuntime) {
     assert!(rt; read_block(&[0; 512]).is_none());

@@ -3,7 +3,7 @@ use Rattle.std.proofs.Common.{◌≡◌, ℕ, zero, suc, ◌<◌, ◌≤◌, Boo
 use Rattle.std.specs.List.{list_any}
 use Rattle.mark_kinds.specs.Table.{all_groups, is_group_asked, kinds_among, some_asked}
 use Rattle.mark_kinds.specs.declared.groups.GroupKind.{GroupKind}
-use Rattle.mark_kinds.specs.declared.groups.GroupKind.TheVariants.{Gpt, Ntfs, Xfs, Btrfs, Lvm, Ext, Extinode, Xfs5, Btrfstree}
+use Rattle.mark_kinds.specs.declared.groups.GroupKind.TheVariants.{Gpt, Ntfs, Xfs, Btrfs, Lvm, Ext, Extinode, Xfs5, Btrfstree, Mft}
 
 or_first : (a b : Bool) → a ≡ true → (a || b) ≡ true
 or_first true b is = refl
@@ -29,6 +29,7 @@ any_of_all p Ext is = any_at p all_groups 5 Gpt (omega arith) is
 any_of_all p Extinode is = any_at p all_groups 6 Gpt (omega arith) is
 any_of_all p Xfs5 is = any_at p all_groups 7 Gpt (omega arith) is
 any_of_all p Btrfstree is = any_at p all_groups 8 Gpt (omega arith) is
+any_of_all p Mft is = any_at p all_groups 9 Gpt (omega arith) is
 
 first_asked : (kind : GroupKind) (kinds : List GroupKind) → is_group_asked (kinds_among (kind ∷ kinds)) kind ≡ true
 first_asked Gpt kinds = refl
@@ -40,6 +41,7 @@ first_asked Ext kinds = refl
 first_asked Extinode kinds = refl
 first_asked Xfs5 kinds = refl
 first_asked Btrfstree kinds = refl
+first_asked Mft kinds = refl
 
 pub among_some : (kinds : List GroupKind) → 1 ≤ length kinds → some_asked (kinds_among kinds) ≡ true
 among_some [] some = absurd (omega arith)

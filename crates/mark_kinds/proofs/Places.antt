@@ -2,17 +2,17 @@
 use Rattle.std.proofs.Common.{◌≡◌, ℕ, zero, suc, ◌<◌, All, cond, eqb, refl, sym, ap, ◌∙◌, arith}
 use Rattle.mark_kinds.specs.Table.{group_place, kind_place}
 use Rattle.mark_kinds.specs.declared.groups.GroupKind.{GroupKind}
-use Rattle.mark_kinds.specs.declared.groups.GroupKind.TheVariants.{Gpt as GptGroup, Ntfs, Xfs, Btrfs as BtrfsGroup, Lvm as LvmGroup, Ext as ExtGroup, Extinode as ExtinodeGroup, Xfs5 as Xfs5Group, Btrfstree as BtrfstreeGroup}
+use Rattle.mark_kinds.specs.declared.groups.GroupKind.TheVariants.{Gpt as GptGroup, Ntfs, Xfs, Btrfs as BtrfsGroup, Lvm as LvmGroup, Ext as ExtGroup, Extinode as ExtinodeGroup, Xfs5 as Xfs5Group, Btrfstree as BtrfstreeGroup, Mft as MftGroup}
 use Rattle.mark_kinds.specs.declared.groups.TheConstants.{GROUPS, GROUP_COUNT}
 use Rattle.mark_kinds.specs.declared.sectors.Kind.{Kind}
-use Rattle.mark_kinds.specs.declared.sectors.Kind.TheVariants.{Gpt, Boot, FileRecord, Super, Agf, Agi, Btrfs, Lvm, Ext, Extinode, Xfs5, Btrfstree}
+use Rattle.mark_kinds.specs.declared.sectors.Kind.TheVariants.{Gpt, Boot, FileRecord, Super, Agf, Agi, Btrfs, Lvm, Ext, Extinode, Xfs5, Btrfstree, Mft}
 use Rattle.mark_kinds.specs.declared.sectors.TheConstants.{KINDS, KIND_COUNT}
 
 -- ---- groups
 
 -- the kind of groups at a place
 group_at : ℕ → GroupKind
-group_at n = cond (eqb n 0) GptGroup (cond (eqb n 1) Ntfs (cond (eqb n 2) Xfs (cond (eqb n 3) BtrfsGroup (cond (eqb n 4) LvmGroup (cond (eqb n 5) ExtGroup (cond (eqb n 6) ExtinodeGroup (cond (eqb n 7) Xfs5Group BtrfstreeGroup)))))))
+group_at n = cond (eqb n 0) GptGroup (cond (eqb n 1) Ntfs (cond (eqb n 2) Xfs (cond (eqb n 3) BtrfsGroup (cond (eqb n 4) LvmGroup (cond (eqb n 5) ExtGroup (cond (eqb n 6) ExtinodeGroup (cond (eqb n 7) Xfs5Group (cond (eqb n 8) BtrfstreeGroup MftGroup))))))))
 
 group_back : (kind : GroupKind) → group_at (group_place kind) ≡ kind
 unfolding group_at
@@ -25,6 +25,7 @@ group_back ExtGroup = refl
 group_back ExtinodeGroup = refl
 group_back Xfs5Group = refl
 group_back BtrfstreeGroup = refl
+group_back MftGroup = refl
 
 pub same_group : (kind other : GroupKind) → group_place kind ≡ group_place other → kind ≡ other
 same_group kind other e = sym (group_back kind) ∙ ap group_at e ∙ group_back other
@@ -39,6 +40,7 @@ group_below ExtGroup = omega arith
 group_below ExtinodeGroup = omega arith
 group_below Xfs5Group = omega arith
 group_below BtrfstreeGroup = omega arith
+group_below MftGroup = omega arith
 
 -- what holds of all of the list holds of each
 pub each_group : (P : GroupKind → Type 0) → All P GROUPS → (kind : GroupKind) → P kind
@@ -51,12 +53,13 @@ each_group P all ExtGroup = all 5 GptGroup (omega arith)
 each_group P all ExtinodeGroup = all 6 GptGroup (omega arith)
 each_group P all Xfs5Group = all 7 GptGroup (omega arith)
 each_group P all BtrfstreeGroup = all 8 GptGroup (omega arith)
+each_group P all MftGroup = all 9 GptGroup (omega arith)
 
 -- ---- landmark sectors
 
 -- the kind of landmark sectors at a place
 kind_at : ℕ → Kind
-kind_at n = cond (eqb n 0) Gpt (cond (eqb n 1) Boot (cond (eqb n 2) FileRecord (cond (eqb n 3) Super (cond (eqb n 4) Agf (cond (eqb n 5) Agi (cond (eqb n 6) Btrfs (cond (eqb n 7) Lvm (cond (eqb n 8) Ext (cond (eqb n 9) Extinode (cond (eqb n 10) Xfs5 Btrfstree))))))))))
+kind_at n = cond (eqb n 0) Gpt (cond (eqb n 1) Boot (cond (eqb n 2) FileRecord (cond (eqb n 3) Super (cond (eqb n 4) Agf (cond (eqb n 5) Agi (cond (eqb n 6) Btrfs (cond (eqb n 7) Lvm (cond (eqb n 8) Ext (cond (eqb n 9) Extinode (cond (eqb n 10) Xfs5 (cond (eqb n 11) Btrfstree Mft)))))))))))
 
 kind_back : (kind : Kind) → kind_at (kind_place kind) ≡ kind
 unfolding kind_at
@@ -72,6 +75,7 @@ kind_back Ext = refl
 kind_back Extinode = refl
 kind_back Xfs5 = refl
 kind_back Btrfstree = refl
+kind_back Mft = refl
 
 pub same_kind : (kind other : Kind) → kind_place kind ≡ kind_place other → kind ≡ other
 same_kind kind other e = sym (kind_back kind) ∙ ap kind_at e ∙ kind_back other
@@ -89,6 +93,7 @@ kind_below Ext = omega arith
 kind_below Extinode = omega arith
 kind_below Xfs5 = omega arith
 kind_below Btrfstree = omega arith
+kind_below Mft = omega arith
 
 -- the place of the kind at a place
 pub kind_back_at : (n : ℕ) → n < KIND_COUNT → (kind : Kind) × (kind_place kind ≡ n)
@@ -104,7 +109,8 @@ kind_back_at (suc (suc (suc (suc (suc (suc (suc (suc zero)))))))) lt = (Ext, ref
 kind_back_at (suc (suc (suc (suc (suc (suc (suc (suc (suc zero))))))))) lt = (Extinode, refl)
 kind_back_at (suc (suc (suc (suc (suc (suc (suc (suc (suc (suc zero)))))))))) lt = (Xfs5, refl)
 kind_back_at (suc (suc (suc (suc (suc (suc (suc (suc (suc (suc (suc zero))))))))))) lt = (Btrfstree, refl)
-kind_back_at (suc (suc (suc (suc (suc (suc (suc (suc (suc (suc (suc (suc n)))))))))))) lt = absurd (omega arith)
+kind_back_at (suc (suc (suc (suc (suc (suc (suc (suc (suc (suc (suc (suc zero)))))))))))) lt = (Mft, refl)
+kind_back_at (suc (suc (suc (suc (suc (suc (suc (suc (suc (suc (suc (suc (suc n))))))))))))) lt = absurd (omega arith)
 
 pub each_kind : (P : Kind → Type 0) → All P KINDS → (kind : Kind) → P kind
 each_kind P all Gpt = all 0 Gpt (omega arith)
@@ -119,3 +125,4 @@ each_kind P all Ext = all 8 Gpt (omega arith)
 each_kind P all Extinode = all 9 Gpt (omega arith)
 each_kind P all Xfs5 = all 10 Gpt (omega arith)
 each_kind P all Btrfstree = all 11 Gpt (omega arith)
+each_kind P all Mft = all 12 Gpt (omega arith)

@@ -4,10 +4,10 @@ use Rattle.std.specs.List.{list_any}
 use Rattle.mark_kinds.specs.declared.groups.Begin.{Begin}
 use Rattle.mark_kinds.specs.declared.groups.Begin.TheVariants.{WithVolume, AtOrigins}
 use Rattle.mark_kinds.specs.declared.groups.GroupKind.{GroupKind}
-use Rattle.mark_kinds.specs.declared.groups.GroupKind.TheVariants.{Gpt as GptGroup, Ntfs, Xfs, Btrfs as BtrfsGroup, Lvm as LvmGroup, Ext as ExtGroup, Extinode as ExtinodeGroup, Xfs5 as Xfs5Group, Btrfstree as BtrfstreeGroup}
+use Rattle.mark_kinds.specs.declared.groups.GroupKind.TheVariants.{Gpt as GptGroup, Ntfs, Xfs, Btrfs as BtrfsGroup, Lvm as LvmGroup, Ext as ExtGroup, Extinode as ExtinodeGroup, Xfs5 as Xfs5Group, Btrfstree as BtrfstreeGroup, Mft as MftGroup}
 use Rattle.mark_kinds.specs.declared.looking.Kinds.{Kinds}
 use Rattle.mark_kinds.specs.declared.sectors.Kind.{Kind}
-use Rattle.mark_kinds.specs.declared.sectors.Kind.TheVariants.{Gpt, Boot, FileRecord, Super, Agf, Agi, Btrfs, Lvm, Ext, Extinode, Xfs5, Btrfstree}
+use Rattle.mark_kinds.specs.declared.sectors.Kind.TheVariants.{Gpt, Boot, FileRecord, Super, Agf, Agi, Btrfs, Lvm, Ext, Extinode, Xfs5, Btrfstree, Mft}
 
 -- what holds of all groups of a kind: its place among the kinds of groups, which is the order in which groups stand
 -- in plans, its name, where such groups begin on the volume, and how many of them a plan may have
@@ -28,6 +28,7 @@ group_row ExtGroup = record { place = 5; name = codes "ext"; begin = AtOrigins; 
 group_row ExtinodeGroup = record { place = 6; name = codes "extinode"; begin = AtOrigins; most = 32 }
 group_row Xfs5Group = record { place = 7; name = codes "xfs5"; begin = AtOrigins; most = 32 }
 group_row BtrfstreeGroup = record { place = 8; name = codes "btrfstree"; begin = AtOrigins; most = 32 }
+group_row MftGroup = record { place = 9; name = codes "mft"; begin = AtOrigins; most = 32 }
 
 -- what holds of all landmark sectors of a kind: its place among these kinds, its name, and the kind of groups to
 -- which they belong
@@ -49,6 +50,7 @@ kind_row Ext = record { place = 8; name = codes "ext"; group = ExtGroup }
 kind_row Extinode = record { place = 9; name = codes "extinode"; group = ExtinodeGroup }
 kind_row Xfs5 = record { place = 10; name = codes "xfs5"; group = Xfs5Group }
 kind_row Btrfstree = record { place = 11; name = codes "btrfstree"; group = BtrfstreeGroup }
+kind_row Mft = record { place = 12; name = codes "mft"; group = MftGroup }
 
 -- columns of the table
 abbrev pub group_place : GroupKind → ℕ
@@ -65,7 +67,7 @@ group_of kind = (kind_row kind).group
 
 -- all kinds of groups, in their order
 abbrev pub all_groups : List GroupKind
-all_groups = GptGroup ∷ Ntfs ∷ Xfs ∷ BtrfsGroup ∷ LvmGroup ∷ ExtGroup ∷ ExtinodeGroup ∷ Xfs5Group ∷ BtrfstreeGroup ∷ []
+all_groups = GptGroup ∷ Ntfs ∷ Xfs ∷ BtrfsGroup ∷ LvmGroup ∷ ExtGroup ∷ ExtinodeGroup ∷ Xfs5Group ∷ BtrfstreeGroup ∷ MftGroup ∷ []
 
 abbrev pub is_same_group : GroupKind → GroupKind → Bool
 is_same_group kind other = group_place kind == group_place other
@@ -74,9 +76,9 @@ is_same_group kind other = group_place kind == group_place other
 abbrev pub has_group : GroupKind → List GroupKind → Bool
 has_group kind kinds = list_any (is_same_group kind) kinds
 
--- which kinds are looked for: all but ext, extinode, xfs5 and btrfstree where none is named, or those among others
+-- which kinds are looked for: all but ext, extinode, xfs5, btrfstree and mft where none is named, or those among others
 abbrev pub usual_kinds : Kinds
-usual_kinds = record { gpt = true; ntfs = true; xfs = true; btrfs = true; lvm = true; ext = false; extinode = false; xfs5 = false; btrfstree = false }
+usual_kinds = record { gpt = true; ntfs = true; xfs = true; btrfs = true; lvm = true; ext = false; extinode = false; xfs5 = false; btrfstree = false; mft = false }
 
 abbrev pub kinds_among : List GroupKind → Kinds
 kinds_among kinds = record {
@@ -89,6 +91,7 @@ kinds_among kinds = record {
   extinode = has_group ExtinodeGroup kinds;
   xfs5 = has_group Xfs5Group kinds;
   btrfstree = has_group BtrfstreeGroup kinds;
+  mft = has_group MftGroup kinds;
 }
 
 -- a kind is looked for
@@ -102,6 +105,7 @@ is_group_asked kinds ExtGroup = kinds.ext
 is_group_asked kinds ExtinodeGroup = kinds.extinode
 is_group_asked kinds Xfs5Group = kinds.xfs5
 is_group_asked kinds BtrfstreeGroup = kinds.btrfstree
+is_group_asked kinds MftGroup = kinds.mft
 
 -- some kind is looked for
 abbrev pub some_asked : Kinds → Bool

@@ -25,10 +25,12 @@ pub enum GroupKind {
     Xfs5,
     /// The tree blocks of a btrfs file system.
     Btrfstree,
+    /// The file records of an NTFS file system.
+    Mft,
 }
 
 /// How many kinds of groups there are.
-pub const GROUP_COUNT: usize = 9;
+pub const GROUP_COUNT: usize = 10;
 
 /// All kinds of groups, in the order in which they stand in plans and lists.
 pub const GROUPS: [GroupKind; GROUP_COUNT] = [
@@ -41,6 +43,7 @@ pub const GROUPS: [GroupKind; GROUP_COUNT] = [
     GroupKind::Extinode,
     GroupKind::Xfs5,
     GroupKind::Btrfstree,
+    GroupKind::Mft,
 ];
 
 /// The most groups of one kind of file system in a plan.
@@ -106,6 +109,7 @@ impl GroupKind {
             GroupKind::Extinode => file_system(6, "extinode"),
             GroupKind::Xfs5 => file_system(7, "xfs5"),
             GroupKind::Btrfstree => file_system(8, "btrfstree"),
+            GroupKind::Mft => file_system(9, "mft"),
         }
     }
 

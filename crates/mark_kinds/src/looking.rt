@@ -25,6 +25,8 @@ pub struct Kinds {
     pub xfs5: bool,
     /// Tree blocks of btrfs file systems.
     pub btrfstree: bool,
+    /// File records of NTFS file systems.
+    pub mft: bool,
 }
 
 /// The most sectors that a survey may be asked to pass over.
@@ -40,7 +42,7 @@ pub struct DropAt {
 }
 
 impl Kinds {
-    /// The kinds that are looked for where none is named: all but ext, extinode, xfs5 and btrfstree.
+    /// The kinds that are looked for where none is named: all but ext, extinode, xfs5, btrfstree and mft.
     pub fn usual() -> Kinds
         ensures { result ≡ usual_kinds }
     {
@@ -54,6 +56,7 @@ impl Kinds {
             extinode: false,
             xfs5: false,
             btrfstree: false,
+            mft: false,
         }
     }
 
@@ -71,6 +74,7 @@ impl Kinds {
             extinode: has_group(kinds, GroupKind::Extinode),
             xfs5: has_group(kinds, GroupKind::Xfs5),
             btrfstree: has_group(kinds, GroupKind::Btrfstree),
+            mft: has_group(kinds, GroupKind::Mft),
         }
     }
 
@@ -88,6 +92,7 @@ impl Kinds {
             GroupKind::Extinode => self.extinode,
             GroupKind::Xfs5 => self.xfs5,
             GroupKind::Btrfstree => self.btrfstree,
+            GroupKind::Mft => self.mft,
         }
     }
 }

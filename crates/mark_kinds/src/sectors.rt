@@ -31,10 +31,12 @@ pub enum Kind {
     Xfs5,
     /// A tree block of btrfs.
     Btrfstree,
+    /// A file record of NTFS, or a boot sector, that tells of the records of a whole table.
+    Mft,
 }
 
 /// How many kinds of landmark sectors there are.
-pub const KIND_COUNT: usize = 12;
+pub const KIND_COUNT: usize = 13;
 
 /// All kinds of landmark sectors, in their order.
 pub const KINDS: [Kind; KIND_COUNT] = [
@@ -50,6 +52,7 @@ pub const KINDS: [Kind; KIND_COUNT] = [
     Kind::Extinode,
     Kind::Xfs5,
     Kind::Btrfstree,
+    Kind::Mft,
 ];
 
 /// What holds of all landmark sectors of a kind: a row of the table.
@@ -83,6 +86,7 @@ impl Kind {
             Kind::Extinode => row_of(9, "extinode", GroupKind::Extinode),
             Kind::Xfs5 => row_of(10, "xfs5", GroupKind::Xfs5),
             Kind::Btrfstree => row_of(11, "btrfstree", GroupKind::Btrfstree),
+            Kind::Mft => row_of(12, "mft", GroupKind::Mft),
         }
     }
 

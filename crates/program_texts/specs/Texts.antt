@@ -5,7 +5,7 @@ use Rattle.std.specs.Prelude.{ℕ, List, codes, ◌++◌}
 unfoldable pub help_text : List ℕ
 help_text =
     codes "usage: reraid COMMAND [NAME=VALUE..] -- [IMAGE..]\n"
-    ++ codes "       reraid --help\n"
+    ++ codes "       reraid --help (or -h, or help)\n"
     ++ codes "       reraid --version\n"
     ++ codes "\n"
     ++ codes "Finds how a striped array (RAID 0, 4, 5, 6 or 10) was laid out, from raw images\n"

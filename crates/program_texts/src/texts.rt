@@ -9,7 +9,7 @@ pub fn help_text() -> &'static str
 {
     "\
 usage: reraid COMMAND [NAME=VALUE..] -- [IMAGE..]
-       reraid --help
+       reraid --help (or -h, or help)
        reraid --version
 
 Finds how a striped array (RAID 0, 4, 5, 6 or 10) was laid out, from raw images

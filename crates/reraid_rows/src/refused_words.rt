@@ -9,19 +9,23 @@ use std::thread::Threads;
 
 /// Lines with their refused words, counted from 1, or 0 where they are command lines. A refused word is the first with which no
 /// command line goes on, or the one after the last where all of them begin one.
-static LINES: [(&str, u64); 128] = [
+static LINES: [(&str, u64); 132] = [
     // no command, or another spelling of one
     ("", 1),
     (" list -- a", 1),
     ("reraid list -- a", 1),
     ("Survey -- a", 1),
     ("checks set=0:plain:none:1:0:0,1 -- a", 1),
-    ("-h", 1),
-    ("help", 1),
+    ("--h", 1),
+    ("helps", 1),
     ("--", 1),
     ("--versions", 1),
     // words that ask for something alone
     ("--help", 0),
+    ("-h", 0),
+    ("help", 0),
+    ("-h x", 1),
+    ("help list", 1),
     ("--version", 0),
     ("--help ", 1),
     ("--version -- a", 1),

@@ -41,6 +41,21 @@ fn the_version_is_put(rt: HostRuntime) -> Result<(), Fail> {
 }
 
 #[test]
+fn two_short_words_put_the_help(rt: HostRuntime) -> Result<(), Fail> {
+    let (_, long) = run(&rt, rt.alloc(), "--help", &[], b"")?;
+    for word in &["-h", "help"] {
+        let end = End {
+            status: 0,
+            out: long.out.bytes(),
+            notes: b"",
+        };
+        let (status, met) = run(&rt, rt.alloc(), word, &[], b"")?;
+        compare(&rt, status, &met, &end, word);
+    }
+    Ok(())
+}
+
+#[test]
 fn the_help_has_each_command(rt: HostRuntime) -> Result<(), Fail> {
     let (status, met) = run(&rt, rt.alloc(), "--help", &[], b"")?;
     same_status(&rt, status, 0, "--help");
@@ -88,6 +103,8 @@ fn the_server_has_a_version(rt: HostRuntime) -> Result<(), Fail> {
         notes: b"reraid: word 1 is not understood\n",
     };
     serves(&rt, alloc, "--version ", &refused)?;
+    serves(&rt, alloc, "-h", &refused)?;
+    serves(&rt, alloc, "help", &refused)?;
     serves(&rt, alloc, "--help -- a", &refused)
 }
 

@@ -11,9 +11,9 @@ use Rattle.std.proofs.lemmas.List.Sorted.{IsNonDecreasingBy-short}
 use Rattle.landmark_rules.specs.Groups.{AreGroups, AreMarkBounds, IsMark, group_place, kind_place, mark_place, marks_in, most_groups}
 use Rattle.landmark_rules.specs.declared.marks.Group.{Group}
 use Rattle.mark_kinds.specs.declared.groups.GroupKind.{GroupKind}
-use Rattle.mark_kinds.specs.declared.groups.GroupKind.TheVariants.{Gpt as GptGroup, Ntfs, Xfs, Btrfs, Lvm, Ext, Extinode, Xfs5, Btrfstree}
+use Rattle.mark_kinds.specs.declared.groups.GroupKind.TheVariants.{Gpt as GptGroup, Ntfs, Xfs, Btrfs, Lvm, Ext, Extinode, Xfs5, Btrfstree, Mft}
 use Rattle.mark_kinds.specs.declared.sectors.Kind.{Kind}
-use Rattle.mark_kinds.specs.declared.sectors.Kind.TheVariants.{Gpt, Boot, FileRecord, Super, Agf, Agi, Btrfs as BtrfsMark, Lvm as LvmMark, Ext as ExtMark, Extinode as ExtinodeMark, Xfs5 as Xfs5Mark, Btrfstree as BtrfstreeMark}
+use Rattle.mark_kinds.specs.declared.sectors.Kind.TheVariants.{Gpt, Boot, FileRecord, Super, Agf, Agi, Btrfs as BtrfsMark, Lvm as LvmMark, Ext as ExtMark, Extinode as ExtinodeMark, Xfs5 as Xfs5Mark, Btrfstree as BtrfstreeMark, Mft as MftMark}
 use Rattle.std.specs.Prelude.{◌==◌, IfSome, IsSomeAnd, count_by}
 use Rattle.landmark_rules.specs.declared.limits.TheConstants.{MOST_MARKS, MOST_ORIGINS}
 use Rattle.raid_params.specs.declared.limits.TheConstants.{LONGEST_DELAY, MOST, MOST_DELAYS, MOST_MISSING, MOST_OFFSETS}
@@ -177,6 +177,7 @@ headers_are lengths second third = record {
     few Extinode = omega arith
     few Xfs5 = omega arith
     few Btrfstree = omega arith
+    few Mft = omega arith
 
     few_marks : (kind : Kind) → count_by (λ mark. kind_place mark.kind == kind_place kind) (marks_in headers) ≤ MOST_MARKS
     few_marks Gpt = omega arith
@@ -191,6 +192,7 @@ headers_are lengths second third = record {
     few_marks ExtinodeMark = omega arith
     few_marks Xfs5Mark = omega arith
     few_marks BtrfstreeMark = omega arith
+    few_marks MftMark = omega arith
 
 -- a plan without groups that keeps the rules
 pub plan_is : (plan : Plan) → plan.groups ≡ [] → keeps_rules plan ≡ true → IsPlan plan

@@ -369,12 +369,23 @@ const SUPER_LINES: Lines = (
     )],
 );
 
-// The kind of inodes alone, and where none is a mark.
+// The kind of inodes alone. Where none is a mark there is no group.
 const XFS5: &[GroupKind] = &[GroupKind::Xfs5];
 
-const NO_INODE: &[Lines] = &[(GroupKind::Xfs5, &[])];
+const NO_INODE: &[Lines] = &[];
 
-static INODE_ROWS: [Row; 7] = [
+// A superblock of a file system with sectors of 4,096 bytes, whose checksum is not looked at; with half as many groups; and damaged.
+const WIDE: &[Field] = &[(102, &[0x10])];
+
+const TWO_GROUPS: &[Field] = &[(91, &[2])];
+
+const DAMAGED: &[Field] = &[(300, &[1])];
+
+const ROOT_LINES: Lines = (GroupKind::Xfs5, &[(Kind::Xfs5, 0, 20, Rule::At(128))]);
+
+const LATER_LINES: Lines = (GroupKind::Xfs5, &[(Kind::Xfs5, 0, 20, Rule::At(540_800))]);
+
+static INODE_ROWS: [Row; 9] = [
     (INODES, XFS5, &[INODE_LINES]),
     (
         INODES,
@@ -383,7 +394,7 @@ static INODE_ROWS: [Row; 7] = [
     ),
     // of another file system
     (
-        &[SUPER_AT_9, (0, 9, &[(32, &[0])]), ROOT_AT_20],
+        &[SUPER_AT_9, (0, 9, WIDE), (0, 9, &[(32, &[0])]), ROOT_AT_20],
         XFS5,
         NO_INODE,
     ),
@@ -395,9 +406,20 @@ static INODE_ROWS: [Row; 7] = [
     ),
     // in a group that the file system does not have
     (
-        &[SUPER_AT_9, (0, 9, &[(91, &[2])]), LATER_AT_20],
+        &[SUPER_AT_9, (0, 9, WIDE), (0, 9, TWO_GROUPS), LATER_AT_20],
         XFS5,
         NO_INODE,
+    ),
+    // with a damaged superblock, which tells only if its checksum is not looked at
+    (
+        &[SUPER_AT_9, (0, 9, DAMAGED), ROOT_AT_20],
+        XFS5,
+        NO_INODE,
+    ),
+    (
+        &[SUPER_AT_9, (0, 9, WIDE), (0, 9, DAMAGED), ROOT_AT_20],
+        XFS5,
+        &[ROOT_LINES],
     ),
     // without a superblock
     (&[ROOT_AT_20], XFS5, &[]),
@@ -408,6 +430,48 @@ static INODE_ROWS: [Row; 7] = [
 #[test]
 fn inodes_of_xfs_have_a_group(rt: HostRuntime) -> Result<(), Fail> {
     finds_all(&rt, &[], &INODE_ROWS)
+}
+
+// Superblocks of one file system before and behind that at 9, of which some have the half of its groups. The inode is of group 2 of four.
+const FEWER_AT_3: &[Placed] = &[(0, 3, &[(0, &SUPER)]), (0, 3, WIDE), (0, 3, TWO_GROUPS)];
+
+static DIFFERING: [Row; 4] = [
+    // of equals the first decides
+    (&[SUPER_AT_9, LATER_AT_20], XFS5, NO_INODE),
+    // what most state
+    (
+        &[SUPER_AT_9, (0, 12, &[(0, &SUPER)]), LATER_AT_20],
+        XFS5,
+        &[LATER_LINES],
+    ),
+    // of two and two the first again
+    (
+        &[
+            SUPER_AT_9,
+            (0, 12, &[(0, &SUPER)]),
+            (0, 15, &[(0, &SUPER)]),
+            (0, 15, WIDE),
+            (0, 15, TWO_GROUPS),
+            LATER_AT_20,
+        ],
+        XFS5,
+        NO_INODE,
+    ),
+    // the one that says otherwise is damaged, so it does not count
+    (
+        &[
+            (0, 3, &[(102, &[2])]),
+            SUPER_AT_9,
+            LATER_AT_20,
+        ],
+        XFS5,
+        &[LATER_LINES],
+    ),
+];
+
+#[test]
+fn most_superblocks_decide(rt: HostRuntime) -> Result<(), Fail> {
+    finds_all(&rt, FEWER_AT_3, &DIFFERING)
 }
 
 // Superblocks of inodes of 1,024 bytes and of the largest.
@@ -488,12 +552,44 @@ const SECOND: Placed = (
 
 // The superblock has the inode's identifier, and the group and block of its number, which begins a stretch there too.
 static OTHER_SIZES: [Row; 3] = [
-    (&[SUPER_AT_9, SECOND, LARGE_AT_20], XFS5, NO_INODE),
-    (&[LARGE_AT_9, FIRST, ROOT_AT_20], XFS5, NO_INODE),
-    (&[LARGEST_AT_9, FIRST, ROOT_AT_20], XFS5, NO_INODE),
+    (
+        &[SUPER_AT_9, (0, 9, WIDE), SECOND, LARGE_AT_20],
+        XFS5,
+        NO_INODE,
+    ),
+    (
+        &[LARGE_AT_9, (0, 9, WIDE), FIRST, ROOT_AT_20],
+        XFS5,
+        NO_INODE,
+    ),
+    (
+        &[LARGEST_AT_9, (0, 9, WIDE), FIRST, ROOT_AT_20],
+        XFS5,
+        NO_INODE,
+    ),
 ];
 
 #[test]
 fn inodes_of_another_size_are_no_marks(rt: HostRuntime) -> Result<(), Fail> {
     finds_all(&rt, &[], &OTHER_SIZES)
+}
+
+// Two file systems: the superblock of the first stands before that of the second, and its inode behind.
+static TWO_SYSTEMS: [Row; 1] = [(
+    &[
+        SUPER_AT_9,
+        (0, 12, &[(0, &LARGE_SUPER)]),
+        LARGE_AT_20,
+        (0, 30, &[(0, &ROOT)]),
+    ],
+    XFS5,
+    &[
+        LARGE_LINES,
+        (GroupKind::Xfs5, &[(Kind::Xfs5, 0, 30, Rule::At(128))]),
+    ],
+)];
+
+#[test]
+fn groups_stand_in_the_order_of_their_marks(rt: HostRuntime) -> Result<(), Fail> {
+    finds_all(&rt, &[], &TWO_SYSTEMS)
 }

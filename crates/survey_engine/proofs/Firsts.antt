@@ -23,7 +23,7 @@ use Rattle.survey_engine.specs.Landmarks.{kind_of}
 use Rattle.landmark_rules.specs.Groups.{kind_place}
 use Rattle.survey_engine.specs.declared.landmark.GptTable.{GptTable}
 use Rattle.survey_engine.specs.declared.landmark.Landmark.{Landmark}
-use Rattle.survey_engine.specs.declared.landmark.Landmark.TheVariants.{Gpt, Boot, FileRecord, Super, Super5, Agf, Agi, Btrfs, Lvm, Ext, Inode, Tree, Inodes, Placed}
+use Rattle.survey_engine.specs.declared.landmark.Landmark.TheVariants.{Gpt, Boot, FileRecord, Super, Super5, Agf, Agi, Btrfs, Lvm, Ext, Inode, Tree, Inodes, Placed, Record, Volume}
 use Rattle.survey_engine.specs.declared.sighting.Sighting.{Sighting}
 use Rattle.survey_engine.proofs.Numbers.{with_more, with_none}
 
@@ -76,6 +76,8 @@ not_gpt (Ext x) sector long bytes never = refl
 not_gpt (Inode i) sector long bytes never = refl
 not_gpt (Tree t) sector long bytes never = refl
 not_gpt (Inodes pair) sector long bytes never = refl
+not_gpt (Record r) sector long bytes never = refl
+not_gpt (Volume b) sector long bytes never = refl
 not_gpt (Placed pair place) sector long bytes never = refl
 
 -- none but a header has hints
@@ -222,6 +224,8 @@ followed_few (Ext x) sector long = omega arith
 followed_few (Inode i) sector long = omega arith
 followed_few (Tree t) sector long = omega arith
 followed_few (Inodes pair) sector long = omega arith
+followed_few (Record r) sector long = omega arith
+followed_few (Volume b) sector long = omega arith
 followed_few (Placed pair place) sector long = omega arith
 
 followed_are_few : (lengths : List ℕ) (found : List Sighting) → count_by (is_followed lengths) found ≤ count_by (is_same_kind GptKind) found

@@ -5,6 +5,8 @@ use Rattle.sector_fields.proofs.Bytes.{byte_of}
 use Rattle.gpt_marks.specs.Header.{is_gpt_header}
 use Rattle.ntfs_marks.specs.Boot.{has_boot_form, is_ntfs_boot}
 use Rattle.ntfs_marks.specs.FileRecord.{is_ntfs_record}
+use Rattle.mft.specs.Boot.{has_form, is_boot}
+use Rattle.mft.specs.Start.{is_start}
 use Rattle.xfs_marks.specs.Superblock.{is_xfs_super}
 use Rattle.xfs_marks.specs.Group.{is_xfs_agf, is_xfs_agi}
 use Rattle.more_marks.specs.Btrfs.{is_btrfs_super}
@@ -22,6 +24,14 @@ boot_byte s h = byte_of s 3 (codes "NTFS    ") 0 (grind arith) (omega arith)
 pub record_byte : (s : List ℕ) → is_ntfs_record s ≡ true → slice_index s 3 ≡ 69
 unfolding is_ntfs_record
 record_byte s h = byte_of s 0 (codes "FILE") 3 (grind arith) (omega arith)
+
+pub start_byte : (s : List ℕ) → is_start s ≡ true → slice_index s 3 ≡ 69
+unfolding is_start
+start_byte s h = byte_of s 0 (codes "FILE") 3 (grind arith) (omega arith)
+
+pub volume_byte : (s : List ℕ) → is_boot s ≡ true → slice_index s 3 ≡ 78
+unfolding is_boot has_form
+volume_byte s h = byte_of s 3 (codes "NTFS    ") 0 (grind arith) (omega arith)
 
 pub super_byte : (s : List ℕ) → is_xfs_super s ≡ true → slice_index s 3 ≡ 66
 unfolding is_xfs_super

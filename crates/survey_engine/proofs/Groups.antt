@@ -11,7 +11,10 @@ use Rattle.mark_kinds.specs.declared.groups.GroupKind.{GroupKind}
 use Rattle.mark_kinds.specs.declared.looking.Kinds.{Kinds}
 use Rattle.landmark_rules.specs.declared.marks.Mark.{Mark}
 use Rattle.landmark_rules.specs.declared.marks.Rule.{Rule}
+use Rattle.xfs5.specs.declared.places.XfsInodes.{XfsInodes}
 use Rattle.survey_engine.specs.Kept.{kept, kept_with}
+use Rattle.survey_engine.specs.Systems.{systems_of}
+use Rattle.survey_engine.proofs.Kept.{maps_more}
 use Rattle.survey_engine.specs.Landmarks.{kind_of, IsSound}
 use Rattle.survey_engine.specs.Owners.{group_for, groups_asked, groups_in, is_new, mark_in, owner_among, owners_of, rule_in, IsSoundOwner}
 use Rattle.survey_engine.specs.Sightings.{sighted_at}
@@ -25,36 +28,33 @@ sound_at found i s all below is = rw is (All-get_or (λ t. IsSound t.landmark) f
 pub owner_at : (owners : List Owner) (i : ℕ) (o : Owner) → All IsSoundOwner owners → i < length owners → o ≡ get_or owners i o → IsSoundOwner o
 owner_at owners i o all below is = rw is (All-get_or IsSoundOwner owners i o below all)
 
-maps_more : {X Y : Type 0} (h : X → Option Y) (xs : List X) (i : ℕ) (x : X) (one : Option Y) → i < length xs → x ≡ get_or xs i x → h x ≡ one → filter_map h (take (i + 1) xs) ≡ filter_map h (take i xs) ++ cons_option one []
-maps_more {X} {Y} h xs i x one below is at =
-    ap (filter_map h) (take_more xs i x below) ∙ filter_map-append h (take i xs) (get_or xs i x ∷ [])
-    ∙ ap (λ (y : X). filter_map h (take i xs) ++ cons_option (h y) []) (sym is) ∙ ap (λ (o : Option Y). filter_map h (take i xs) ++ cons_option o []) at
-
 -- ---- owners
 
 -- those of the first sightings
-pub owners_to : GroupKind → List Sighting → ℕ → List Owner
-owners_to kind found n = kept (is_new kind) (filter_map (owner_among kind) (take n found))
+pub owners_to : GroupKind → List XfsInodes → List Sighting → ℕ → List Owner
+owners_to kind systems found n = kept (is_new kind) (filter_map (owner_among kind systems) (take n found))
 
-pub owners_none : (kind : GroupKind) (found : List Sighting) → owners_to kind found 0 ≡ []
+pub owners_none : (kind : GroupKind) (systems : List XfsInodes) (found : List Sighting) → owners_to kind systems found 0 ≡ []
 unfolding owners_to
-owners_none kind found = refl
+owners_none kind systems found = refl
 
-pub owners_some : (kind : GroupKind) (found : List Sighting) (i : ℕ) (s : Sighting) (o : Owner) → i < length found → s ≡ get_or found i s → owner_among kind s ≡ Some o →
-    owners_to kind found (i + 1) ≡ kept_with (is_new kind) (owners_to kind found i) o
+pub owners_some : (kind : GroupKind) (systems : List XfsInodes) (found : List Sighting) (i : ℕ) (s : Sighting) (o : Owner) → i < length found → s ≡ get_or found i s → owner_among kind systems s ≡ Some o →
+    owners_to kind systems found (i + 1) ≡ kept_with (is_new kind) (owners_to kind systems found i) o
 unfolding owners_to
-owners_some kind found i s o below is at =
-    ap (kept (is_new kind)) (maps_more (owner_among kind) found i s (Some o) below is at) ∙ fold-append (kept_with (is_new kind)) [] (filter_map (owner_among kind) (take i found)) (o ∷ [])
+owners_some kind systems found i s o below is at =
+    ap (kept (is_new kind)) (maps_more (owner_among kind systems) found i s (Some o) below is at) ∙ fold-append (kept_with (is_new kind)) [] (filter_map (owner_among kind systems) (take i found)) (o ∷ [])
 
-pub owners_same : (kind : GroupKind) (found : List Sighting) (i : ℕ) (s : Sighting) → i < length found → s ≡ get_or found i s → owner_among kind s ≡ None →
-    owners_to kind found (i + 1) ≡ owners_to kind found i
+pub owners_same : (kind : GroupKind) (systems : List XfsInodes) (found : List Sighting) (i : ℕ) (s : Sighting) → i < length found → s ≡ get_or found i s → owner_among kind systems s ≡ None →
+    owners_to kind systems found (i + 1) ≡ owners_to kind systems found i
 unfolding owners_to
-owners_same kind found i s below is at =
-    ap (kept (is_new kind)) (maps_more (owner_among kind) found i s None below is at ∙ append-nil (filter_map (owner_among kind) (take i found)))
+owners_same kind systems found i s below is at =
+    ap (kept (is_new kind)) (maps_more (owner_among kind systems) found i s None below is at ∙ append-nil (filter_map (owner_among kind systems) (take i found)))
 
-pub owners_all : (kind : GroupKind) (found : List Sighting) (n : ℕ) → length found ≤ n → owners_to kind found n ≡ owners_of kind found
+pub owners_all : (kind : GroupKind) (systems : List XfsInodes) (found : List Sighting) (n : ℕ) → systems ≡ systems_of found → length found ≤ n → owners_to kind systems found n ≡ owners_of kind found
 unfolding owners_to owners_of
-owners_all kind found n all = ap (λ (l : List Sighting). kept (is_new kind) (filter_map (owner_among kind) l)) (take_all n found all)
+owners_all kind systems found n are all =
+    ap (λ (l : List Sighting). kept (is_new kind) (filter_map (owner_among kind systems) l)) (take_all n found all)
+    ∙ ap (λ (l : List XfsInodes). kept (is_new kind) (filter_map (owner_among kind l) found)) are
 
 -- ---- marks
 

@@ -25,21 +25,21 @@ use Rattle.survey_engine.proofs.Marks.{are_marks, are_rising}
 use Rattle.survey_engine.proofs.Once.{few_marks}
 use Rattle.survey_engine.proofs.Owners.{owners_few, owners_kind, owners_sound}
 
-abbrev place_of : Group → ℕ
+abbrev pub place_of : Group → ℕ
 place_of group = group_place group.kind
 
-abbrev is_of : Kind → Mark → Bool
+abbrev pub is_of : Kind → Mark → Bool
 is_of kind mark = kind_place mark.kind == kind_place kind
 
 -- ---- what holds of the groups of one kind
 
-record AreOf (lengths : List ℕ) (at : ℕ) (most : ℕ) (groups : List Group) : Type 0 where
-  place : All (λ g. place_of g ≡ at) groups
-  few : length groups ≤ most
-  marks : All (λ g. All (IsMark lengths g.kind) g.marks) groups
-  rising : All (λ g. IsStrictlyIncreasing (map mark_place g.marks)) groups
-  bounds : All (λ g. IfSome g.bounds AreMarkBounds) groups
-  few_marks_in : (kind : Kind) → count_by (is_of kind) (marks_in groups) ≤ 4096
+pub record AreOf (lengths : List ℕ) (at : ℕ) (most : ℕ) (groups : List Group) : Type 0 where
+  pub place : All (λ g. place_of g ≡ at) groups
+  pub few : length groups ≤ most
+  pub marks : All (λ g. All (IsMark lengths g.kind) g.marks) groups
+  pub rising : All (λ g. IsStrictlyIncreasing (map mark_place g.marks)) groups
+  pub bounds : All (λ g. IfSome g.bounds AreMarkBounds) groups
+  pub few_marks_in : (kind : Kind) → count_by (is_of kind) (marks_in groups) ≤ 4096
 
 flat_of_map : {X Y Z : Type 0} (f : X → Y) (g : Y → List Z) (xs : List X) → flat_map g (map f xs) ≡ flat_map (λ x. g (f x)) xs
 flat_of_map f g [] = refl
@@ -79,14 +79,14 @@ of_asked : (lengths : List ℕ) (at most : ℕ) (groups : List Group) (b : Bool)
 of_asked lengths at most groups true are = are
 of_asked lengths at most groups false are = none_of_kind lengths at most
 
-asked_of : (lengths : List ℕ) (asked : Kinds) (found : List Sighting) (kind : GroupKind) → AreSightings lengths found → AreOf lengths (group_place kind) (most_groups kind) (groups_asked asked found kind)
+pub asked_of : (lengths : List ℕ) (asked : Kinds) (found : List Sighting) (kind : GroupKind) → AreSightings lengths found → AreOf lengths (group_place kind) (most_groups kind) (groups_asked asked found kind)
 unfolding groups_asked
 asked_of lengths asked found kind are =
     of_asked lengths (group_place kind) (most_groups kind) (groups_in found kind) (is_group_asked asked kind) (of_kind lengths found kind are)
 
 -- ---- their order
 
-Level : List Group → Type 0
+pub Level : List Group → Type 0
 Level [] = Unit {0}
 Level (g ∷ groups) = All (λ h. place_of g ≤ place_of h) groups × Level groups
 
@@ -100,7 +100,7 @@ level_append n (g ∷ some) more here above level =
       level_append n some more rest above level,
     )
 
-never_falls : (groups : List Group) → Level groups → IsNonDecreasing (map place_of groups)
+pub never_falls : (groups : List Group) → Level groups → IsNonDecreasing (map place_of groups)
 unfolding Level
 never_falls [] level i j d le below = absurd (omega arith)
 never_falls (g ∷ groups) level zero zero d le below = omega arith
@@ -165,16 +165,16 @@ marks_at lengths P (g ∷ groups) at marks =
 -- ---- kind after kind
 
 -- what holds of the groups of kinds that begin at a place
-record AreFrom (lengths : List ℕ) (n : ℕ) (groups : List Group) : Type 0 where
-  above : All (λ g. n ≤ place_of g) groups
-  level : Level groups
-  few : (kind : GroupKind) → count_by (λ g. place_of g == group_place kind) groups ≤ most_groups kind
-  marks : All (λ g. All (IsMark lengths g.kind) g.marks) groups
-  rising : All (λ g. IsStrictlyIncreasing (map mark_place g.marks)) groups
-  bounds : All (λ g. IfSome g.bounds AreMarkBounds) groups
-  few_marks : (kind : Kind) → count_by (is_of kind) (marks_in groups) ≤ 4096
+pub record AreFrom (lengths : List ℕ) (n : ℕ) (groups : List Group) : Type 0 where
+  pub above : All (λ g. n ≤ place_of g) groups
+  pub level : Level groups
+  pub few : (kind : GroupKind) → count_by (λ g. place_of g == group_place kind) groups ≤ most_groups kind
+  pub marks : All (λ g. All (IsMark lengths g.kind) g.marks) groups
+  pub rising : All (λ g. IsStrictlyIncreasing (map mark_place g.marks)) groups
+  pub bounds : All (λ g. IfSome g.bounds AreMarkBounds) groups
+  pub few_marks : (kind : Kind) → count_by (is_of kind) (marks_in groups) ≤ 4096
 
-none_from : (lengths : List ℕ) (n : ℕ) → AreFrom lengths n []
+pub none_from : (lengths : List ℕ) (n : ℕ) → AreFrom lengths n []
 unfolding Level
 none_from lengths n = record {
   above = All-nil (λ g. n ≤ place_of g);
@@ -235,7 +235,7 @@ few_of lengths kind a rest are from of false e =
     )
 
 -- the groups of a kind before those of kinds that come later
-joined : (lengths : List ℕ) (n : ℕ) (kind : GroupKind) (a rest : List Group) → n ≤ group_place kind → AreOf lengths (group_place kind) (most_groups kind) a → AreFrom lengths (group_place kind + 1) rest → AreFrom lengths n (a ++ rest)
+pub joined : (lengths : List ℕ) (n : ℕ) (kind : GroupKind) (a rest : List Group) → n ≤ group_place kind → AreOf lengths (group_place kind) (most_groups kind) a → AreFrom lengths (group_place kind + 1) rest → AreFrom lengths n (a ++ rest)
 joined lengths n kind a rest le are from = record {
   above = All-append (λ g. n ≤ place_of g) a rest (from_place n (group_place kind) a le are.place) (All-weaker (λ g. group_place kind + 1 ≤ place_of g) (λ g. n ≤ place_of g) (λ g later. omega (arith, later, le)) rest from.above);
   level = level_append (group_place kind) a rest are.place (All-weaker (λ g. group_place kind + 1 ≤ place_of g) (λ g. group_place kind ≤ place_of g) (λ g later. omega (arith, later)) rest from.above) from.level;
@@ -247,7 +247,7 @@ joined lengths n kind a rest le are from = record {
 }
 
 -- kinds whose places rise, from one on
-Rise : ℕ → List GroupKind → Type 0
+unfoldable pub Rise : ℕ → List GroupKind → Type 0
 Rise n [] = Unit {0}
 Rise n (kind ∷ kinds) = (n ≤ group_place kind) × Rise (group_place kind + 1) kinds
 
@@ -259,7 +259,7 @@ are_from lengths asked found are n (kind ∷ kinds) rise =
 
 all_rise : Rise 0 all_groups
 unfolding Rise
-all_rise = (omega arith, (omega arith, (omega arith, (omega arith, (omega arith, (omega arith, (omega arith, (omega arith, (omega arith, tt)))))))))
+all_rise = (omega arith, (omega arith, (omega arith, (omega arith, (omega arith, (omega arith, (omega arith, (omega arith, (omega arith, (omega arith, tt))))))))))
 
 pub are_groups : (lengths : List ℕ) (asked : Kinds) (found : List Sighting) → AreSightings lengths found → AreGroups lengths (groups_of asked found)
 are_groups lengths asked found are =

@@ -117,20 +117,20 @@ bare_with leaf (Tree by) landmark = refl
 bare_with leaf (Placed pair place) landmark = refl
 bare_with leaf by landmark = refl
 
-pub bare_leaf : (lengths : List ℕ) (s : Sighting) → is_leaf lengths (bare s) ≡ is_leaf lengths s
+pub bare_leaf : (asked : Bool) (lengths : List ℕ) (s : Sighting) → is_leaf asked lengths (bare s) ≡ is_leaf asked lengths s
 unfolding is_leaf
-bare_leaf lengths s = ap (λ (b : Bool). b && nat_le (s.sector + 32) (slice_index lengths s.image)) (bare_begins s.landmark)
+bare_leaf asked lengths s = ap (λ (b : Bool). asked && b && nat_le (s.sector + 32) (slice_index lengths s.image)) (bare_begins s.landmark)
 
-pub same_leaf : (lengths : List ℕ) (a b : Sighting) → bare a ≡ bare b → is_leaf lengths a ≡ is_leaf lengths b
-same_leaf lengths a b same = sym (bare_leaf lengths a) ∙ ap (is_leaf lengths) same ∙ bare_leaf lengths b
+pub same_leaf : (asked : Bool) (lengths : List ℕ) (a b : Sighting) → bare a ≡ bare b → is_leaf asked lengths a ≡ is_leaf asked lengths b
+same_leaf asked lengths a b same = sym (bare_leaf asked lengths a) ∙ ap (is_leaf asked lengths) same ∙ bare_leaf asked lengths b
 
-bare_by : (lengths : List ℕ) (images : List (List ℕ)) (s by : Sighting) → told_by_leaf lengths images s (bare by) ≡ told_by_leaf lengths images s by
+bare_by : (asked : Bool) (lengths : List ℕ) (images : List (List ℕ)) (s by : Sighting) → told_by_leaf asked lengths images s (bare by) ≡ told_by_leaf asked lengths images s by
 unfolding told_by_leaf
-bare_by lengths images s by =
-    ap₂ (λ (b : Bool) (l : Landmark). cond (b && is_whole (leaf_of images by)) (record { image = s.image; sector = s.sector; landmark = l }) s) (bare_leaf lengths by) (bare_with (leaf_of images by) by.landmark s.landmark)
+bare_by asked lengths images s by =
+    ap₂ (λ (b : Bool) (l : Landmark). cond (b && is_whole (leaf_of images by)) (record { image = s.image; sector = s.sector; landmark = l }) s) (bare_leaf asked lengths by) (bare_with (leaf_of images by) by.landmark s.landmark)
 
-pub same_by_leaf : (lengths : List ℕ) (images : List (List ℕ)) (s a b : Sighting) → bare a ≡ bare b → told_by_leaf lengths images s a ≡ told_by_leaf lengths images s b
-same_by_leaf lengths images s a b same = sym (bare_by lengths images s a) ∙ ap (told_by_leaf lengths images s) same ∙ bare_by lengths images s b
+pub same_by_leaf : (asked : Bool) (lengths : List ℕ) (images : List (List ℕ)) (s a b : Sighting) → bare a ≡ bare b → told_by_leaf asked lengths images s a ≡ told_by_leaf asked lengths images s b
+same_by_leaf asked lengths images s a b same = sym (bare_by asked lengths images s a) ∙ ap (told_by_leaf asked lengths images s) same ∙ bare_by asked lengths images s b
 
 -- ---- and so they are those of a survey
 
@@ -205,20 +205,20 @@ pub alike_long : (found new : List Sighting) → map bare new ≡ map bare found
 alike_long found new alike = sym (length-map new bare) ∙ ap length alike ∙ length-map found bare
 
 -- the image has it
-fits : (lengths : List ℕ) (s : Sighting) → is_leaf lengths s ≡ true → s.sector + 32 ≤ slice_index lengths s.image
+fits : (asked : Bool) (lengths : List ℕ) (s : Sighting) → is_leaf asked lengths s ≡ true → s.sector + 32 ≤ slice_index lengths s.image
 unfolding is_leaf
-fits lengths s is = grind (arith, nat_tests)
+fits asked lengths s is = grind (arith, nat_tests)
 
 pub reaches : (attached : List Image) (i end : ℕ) → i < length attached → end ≤ get_or (lengths_of attached) i 0 → IsSomeAnd (slice_get attached i) (λ a. end ≤ a.sectors)
 reaches [] i end below more = absurd (omega arith)
 reaches (a ∷ attached) zero end below more = more
 reaches (a ∷ attached) (suc i) end below more = reaches attached i end (omega arith) more
 
-pub leaf_within : (attached : List Image) (lengths : List ℕ) (s : Sighting) → lengths ≡ lengths_of attached → IsInImages lengths s → is_leaf lengths s ≡ true → AreWithin attached s.image s.sector 16384
-leaf_within attached lengths s are in_it is = record {
+pub leaf_within : (asked : Bool) (attached : List Image) (lengths : List ℕ) (s : Sighting) → lengths ≡ lengths_of attached → IsInImages lengths s → is_leaf asked lengths s ≡ true → AreWithin attached s.image s.sector 16384
+leaf_within asked attached lengths s are in_it is = record {
   whole = refl;
   some = omega arith;
-  inside = reaches attached s.image (s.sector + 32) (image_there attached lengths s.image s.sector are in_it.sector) (subst (λ (l : List ℕ). s.sector + 32 ≤ get_or l s.image 0) are (fits lengths s is));
+  inside = reaches attached s.image (s.sector + 32) (image_there attached lengths s.image s.sector are in_it.sector) (subst (λ (l : List ℕ). s.sector + 32 ≤ get_or l s.image 0) are (fits asked lengths s is));
 }
 
 leaf_read : (attached : List Image) (bytes : Option (List (List ℕ))) (s : Sighting) (leaf : List ℕ) → told_all attached ≡ bytes → s.image < length attached → AreTold attached s.image s.sector leaf → length leaf ≡ 16384 → IfSome bytes (λ images. leaf ≡ leaf_of images s)
@@ -229,10 +229,10 @@ pub leaf_told : (attached : List Image) (lengths : List ℕ) (s : Sighting) (lea
 leaf_told attached lengths s leaf lengths_are in_it are long = leaf_read attached (told_all attached) s leaf refl (image_there attached lengths s.image s.sector lengths_are in_it.sector) are long
 
 -- where it tells nothing
-silent : (lengths : List ℕ) (images : List (List ℕ)) (by : Sighting) (found : List Sighting) → (is_leaf lengths by && is_whole (leaf_of images by)) ≡ false → found ≡ map (λ s. told_by_leaf lengths images s by) found
+silent : (asked : Bool) (lengths : List ℕ) (images : List (List ℕ)) (by : Sighting) (found : List Sighting) → (is_leaf asked lengths by && is_whole (leaf_of images by)) ≡ false → found ≡ map (λ s. told_by_leaf asked lengths images s by) found
 unfolding told_by_leaf
-silent lengths images by [] fails = refl
-silent lengths images by (s ∷ found) fails = ap₂ (λ (t : Sighting) (l : List Sighting). t ∷ l) (rw fails refl) (silent lengths images by found fails)
+silent asked lengths images by [] fails = refl
+silent asked lengths images by (s ∷ found) fails = ap₂ (λ (t : Sighting) (l : List Sighting). t ∷ l) (rw fails refl) (silent asked lengths images by found fails)
 
 neither : (a b : Bool) → a ≡ false → (a && b) ≡ false
 neither false b fails = refl
@@ -242,22 +242,22 @@ not_other : (a b : Bool) → b ≡ false → (a && b) ≡ false
 not_other false b fails = refl
 not_other true b fails = fails
 
-pub no_leaf : (bytes : Option (List (List ℕ))) (lengths : List ℕ) (by : Sighting) (found : List Sighting) → is_leaf lengths by ≡ false → IfSome bytes (λ images. found ≡ map (λ s. told_by_leaf lengths images s by) found)
-no_leaf None lengths by found fails = tt
-no_leaf (Some images) lengths by found fails = silent lengths images by found (neither (is_leaf lengths by) (is_whole (leaf_of images by)) fails)
+pub no_leaf : (bytes : Option (List (List ℕ))) (asked : Bool) (lengths : List ℕ) (by : Sighting) (found : List Sighting) → is_leaf asked lengths by ≡ false → IfSome bytes (λ images. found ≡ map (λ s. told_by_leaf asked lengths images s by) found)
+no_leaf None asked lengths by found fails = tt
+no_leaf (Some images) asked lengths by found fails = silent asked lengths images by found (neither (is_leaf asked lengths by) (is_whole (leaf_of images by)) fails)
 
-pub not_whole : (bytes : Option (List (List ℕ))) (lengths leaf : List ℕ) (by : Sighting) (found : List Sighting) → IfSome bytes (λ images. leaf ≡ leaf_of images by) → is_whole leaf ≡ false → IfSome bytes (λ images. found ≡ map (λ s. told_by_leaf lengths images s by) found)
-not_whole None lengths leaf by found read fails = tt
-not_whole (Some images) lengths leaf by found read fails = silent lengths images by found (not_other (is_leaf lengths by) (is_whole (leaf_of images by)) (ap is_whole (sym read) ∙ fails))
+pub not_whole : (bytes : Option (List (List ℕ))) (asked : Bool) (lengths leaf : List ℕ) (by : Sighting) (found : List Sighting) → IfSome bytes (λ images. leaf ≡ leaf_of images by) → is_whole leaf ≡ false → IfSome bytes (λ images. found ≡ map (λ s. told_by_leaf asked lengths images s by) found)
+not_whole None asked lengths leaf by found read fails = tt
+not_whole (Some images) asked lengths leaf by found read fails = silent asked lengths images by found (not_other (is_leaf asked lengths by) (is_whole (leaf_of images by)) (ap is_whole (sym read) ∙ fails))
 
 -- and where it tells
-speaks : (lengths : List ℕ) (images : List (List ℕ)) (by : Sighting) (found : List Sighting) → is_leaf lengths by ≡ true → is_whole (leaf_of images by) ≡ true → map (sighting_with (leaf_of images by) by.landmark) found ≡ map (λ s. told_by_leaf lengths images s by) found
+speaks : (asked : Bool) (lengths : List ℕ) (images : List (List ℕ)) (by : Sighting) (found : List Sighting) → is_leaf asked lengths by ≡ true → is_whole (leaf_of images by) ≡ true → map (sighting_with (leaf_of images by) by.landmark) found ≡ map (λ s. told_by_leaf asked lengths images s by) found
 unfolding told_by_leaf
-speaks lengths images by [] is whole = refl
-speaks lengths images by (s ∷ found) is whole = ap₂ (λ (t : Sighting) (l : List Sighting). t ∷ l) (rw (is, whole) refl) (speaks lengths images by found is whole)
+speaks asked lengths images by [] is whole = refl
+speaks asked lengths images by (s ∷ found) is whole = ap₂ (λ (t : Sighting) (l : List Sighting). t ∷ l) (rw (is, whole) refl) (speaks asked lengths images by found is whole)
 
-pub whole_leaf : (bytes : Option (List (List ℕ))) (lengths leaf : List ℕ) (by : Sighting) (found new : List Sighting) → new ≡ map (sighting_with leaf by.landmark) found → is_leaf lengths by ≡ true → IfSome bytes (λ images. leaf ≡ leaf_of images by) → is_whole leaf ≡ true →
-    IfSome bytes (λ images. new ≡ map (λ s. told_by_leaf lengths images s by) found)
-whole_leaf None lengths leaf by found new heard is read whole = tt
-whole_leaf (Some images) lengths leaf by found new heard is read whole =
-    heard ∙ ap (λ (l : List ℕ). map (sighting_with l by.landmark) found) read ∙ speaks lengths images by found is (ap is_whole (sym read) ∙ whole)
+pub whole_leaf : (bytes : Option (List (List ℕ))) (asked : Bool) (lengths leaf : List ℕ) (by : Sighting) (found new : List Sighting) → new ≡ map (sighting_with leaf by.landmark) found → is_leaf asked lengths by ≡ true → IfSome bytes (λ images. leaf ≡ leaf_of images by) → is_whole leaf ≡ true →
+    IfSome bytes (λ images. new ≡ map (λ s. told_by_leaf asked lengths images s by) found)
+whole_leaf None asked lengths leaf by found new heard is read whole = tt
+whole_leaf (Some images) asked lengths leaf by found new heard is read whole =
+    heard ∙ ap (λ (l : List ℕ). map (sighting_with l by.landmark) found) read ∙ speaks asked lengths images by found is (ap is_whole (sym read) ∙ whole)

@@ -8,7 +8,10 @@ pub mod Rules
 pub mod Order
 pub mod Rows
 pub mod Sweeping
+pub mod Kept
 pub mod Groups
+pub mod Stated
+pub mod MostVotes
 pub mod Numbers
 pub mod Firsts
 pub mod Lengths
@@ -22,3 +25,5 @@ pub mod Descriptors
 pub mod Sizes
 pub mod Told
 pub mod NewerLeaves
+pub mod Recorded
+pub mod TableLaw

@@ -31,7 +31,7 @@ use Rattle.survey_engine.specs.declared.owner.Owner.{Owner}
 use Rattle.survey_engine.specs.declared.owner.Owner.TheVariants.{Table, Ntfs, Xfs, Btrfs, Label, Ext, Xfs5, Trees, Extinode}
 use Rattle.survey_engine.specs.declared.sighting.Sighting.{Sighting}
 use Rattle.survey_engine.proofs.Numbers.{rising_from, Rises}
-use Rattle.survey_engine.proofs.Owners.{mapped_each}
+use Rattle.survey_engine.proofs.Kept.{mapped_each}
 use Rattle.survey_engine.proofs.Rules.{head_near, in_mirror, in_table, inode_near}
 
 -- ---- rules

@@ -6,6 +6,8 @@ use Rattle.std.specs.List.{cons_option, filter_map, flat_map, sum_by}
 use Rattle.std.specs.Option.{is_some, option_map, option_map_or}
 use Rattle.std.proofs.lemmas.Bool.{and_parts, eqb-true}
 use Rattle.std.proofs.lemmas.List.Sums.{count_by-le-length, sum_by-append, sum_by-cons}
+use Rattle.mft.specs.declared.boot.MftBoot.{MftBoot}
+use Rattle.mft.specs.declared.start.RecordStart.{RecordStart}
 use Rattle.ntfs_marks.specs.declared.boot.NtfsBoot.{NtfsBoot}
 use Rattle.ntfs_marks.specs.declared.file_record.NtfsRecord.{NtfsRecord}
 use Rattle.xfs_marks.specs.Superblock.{ag_sectors}
@@ -28,7 +30,7 @@ use Rattle.inode_marks.specs.declared.inode.InodePair.{InodePair}
 use Rattle.survey_engine.specs.declared.landmark.InodePlace.{InodePlace}
 use Rattle.survey_engine.specs.declared.landmark.InodeSeen.{InodeSeen}
 use Rattle.survey_engine.specs.declared.landmark.Landmark.{Landmark}
-use Rattle.survey_engine.specs.declared.landmark.Landmark.TheVariants.{Gpt, Boot, FileRecord, Super, Super5, Agf, Agi, Btrfs as BtrfsSector, Lvm, Ext as ExtSector, Inode, Tree, Inodes, Placed}
+use Rattle.survey_engine.specs.declared.landmark.Landmark.TheVariants.{Gpt, Boot, FileRecord, Super, Super5, Agf, Agi, Btrfs as BtrfsSector, Lvm, Ext as ExtSector, Inode, Tree, Inodes, Placed, Record, Volume}
 use Rattle.survey_engine.specs.declared.landmark.TreeSeen.{TreeSeen}
 use Rattle.survey_engine.specs.declared.owner.Owner.{Owner}
 use Rattle.survey_engine.specs.declared.owner.Owner.TheVariants.{Table, Ntfs, Xfs, Btrfs, Label, Ext, Xfs5, Trees, Extinode}
@@ -210,6 +212,31 @@ none_unplaced alone at pair (Xfs5 x) = refl
 none_unplaced alone at pair (Trees u) = refl
 none_unplaced alone at pair (Extinode u) = refl
 
+-- nor is what tells of file records of NTFS: those are marks of their tables
+none_of_record : (alone : Bool) (at : Place) (r : RecordStart) (o : Owner) → is_some (rule_in o alone at (Record r)) ≡ false
+unfolding rule_in
+none_of_record alone at r Table = refl
+none_of_record alone at r (Ntfs b) = refl
+none_of_record alone at r (Xfs x) = refl
+none_of_record alone at r (Btrfs f) = refl
+none_of_record alone at r (Label j s) = refl
+none_of_record alone at r (Ext v) = refl
+none_of_record alone at r (Xfs5 x) = refl
+none_of_record alone at r (Trees u) = refl
+none_of_record alone at r (Extinode u) = refl
+
+none_of_volume : (alone : Bool) (at : Place) (b : MftBoot) (o : Owner) → is_some (rule_in o alone at (Volume b)) ≡ false
+unfolding rule_in
+none_of_volume alone at b Table = refl
+none_of_volume alone at b (Ntfs c) = refl
+none_of_volume alone at b (Xfs x) = refl
+none_of_volume alone at b (Btrfs f) = refl
+none_of_volume alone at b (Label j s) = refl
+none_of_volume alone at b (Ext v) = refl
+none_of_volume alone at b (Xfs5 x) = refl
+none_of_volume alone at b (Trees u) = refl
+none_of_volume alone at b (Extinode u) = refl
+
 none_alone_record : (at : Place) (r : NtfsRecord) (o : Owner) → is_some (rule_in o false at (FileRecord r)) ≡ false
 unfolding rule_in
 none_alone_record at r Table = refl
@@ -274,6 +301,10 @@ taken_once kind found at (Placed pair place) =
     omega (arith, fewer (λ o. is_some (rule_in o (length (owners_of kind found) == 1) at (Placed pair place))) (λ o. is_same_owner o (Extinode place.identifier)) (takes_placed (length (owners_of kind found) == 1) at pair place) (owners_of kind found), owners_once kind found (Extinode place.identifier))
 taken_once kind found at (Inodes pair) =
     omega (arith, none_pass (λ o. is_some (rule_in o (length (owners_of kind found) == 1) at (Inodes pair))) (none_unplaced (length (owners_of kind found) == 1) at pair) (owners_of kind found))
+taken_once kind found at (Record r) =
+    omega (arith, none_pass (λ o. is_some (rule_in o (length (owners_of kind found) == 1) at (Record r))) (none_of_record (length (owners_of kind found) == 1) at r) (owners_of kind found))
+taken_once kind found at (Volume b) =
+    omega (arith, none_pass (λ o. is_some (rule_in o (length (owners_of kind found) == 1) at (Volume b))) (none_of_volume (length (owners_of kind found) == 1) at b) (owners_of kind found))
 taken_once kind found at (FileRecord r) = alone_or (owners_of kind found) at (FileRecord r) (length (owners_of kind found) == 1) refl (none_alone_record at r)
 taken_once kind found at (Agf g) = alone_or (owners_of kind found) at (Agf g) (length (owners_of kind found) == 1) refl (none_alone_agf at g)
 taken_once kind found at (Agi g) = alone_or (owners_of kind found) at (Agi g) (length (owners_of kind found) == 1) refl (none_alone_agi at g)

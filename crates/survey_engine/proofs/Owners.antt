@@ -1,5 +1,5 @@
 -- The owners of a kind: they are of it, few, and no two are one.
-use Rattle.std.proofs.Common.{◌≡◌, ℕ, ◌<◌, ◌≤◌, List, [], ◌∷◌, ◌++◌, Bool, true, false, not, cond, eqb, ltb, length, fold, refl, sym, ap, ap₂, ◌∙◌, arith, All, IfSome, Option, Some, None}
+use Rattle.std.proofs.Common.{◌≡◌, ℕ, ◌<◌, ◌≤◌, List, [], ◌∷◌, ◌++◌, Bool, true, false, not, cond, eqb, ltb, length, fold, refl, sym, ap, ap₂, subst, ◌∙◌, arith, All, IfSome, Option, Some, None}
 use Rattle.std.specs.Prelude.{◌||◌, ◌&&◌, ◌==◌, count_by, option_and_then}
 use Rattle.std.specs.List.{cons_option, filter_map, list_any}
 use Rattle.std.specs.Option.{is_some}
@@ -13,44 +13,21 @@ use Rattle.std.specs.Str.{bytes_eq}
 use Rattle.ntfs_marks.specs.declared.boot.NtfsBoot.{NtfsBoot}
 use Rattle.xfs_marks.specs.declared.superblock.XfsSuper.{XfsSuper}
 use Rattle.xfs5.specs.declared.places.XfsInodes.{XfsInodes}
-use Rattle.mark_kinds.specs.Table.{is_same_group}
-use Rattle.mark_kinds.specs.declared.groups.GroupKind.TheVariants.{Xfs5 as Xfs5Group}
 use Rattle.landmark_rules.specs.Groups.{group_place, most_groups}
 use Rattle.mark_kinds.specs.declared.groups.GroupKind.{GroupKind}
-use Rattle.survey_engine.specs.Kept.{kept_with}
+use Rattle.survey_engine.proofs.Kept.{kept_each, kept_keeps, mapped_each}
+use Rattle.survey_engine.proofs.Stated.{system_is, systems_sound, AreSoundPlaces}
+use Rattle.survey_engine.specs.Systems.{system_with, systems_of}
+use Rattle.survey_engine.specs.declared.landmark.InodeSeen.{InodeSeen}
 use Rattle.survey_engine.specs.Landmarks.{IsSound}
-use Rattle.survey_engine.specs.Owners.{group_kind, inodes_owner, is_new, is_same_boot, is_same_owner, inodes_rule, is_same_super, is_same_volume, owner_among, owner_for, owner_in, owners_of, tree_rule, IsSoundOwner}
+use Rattle.survey_engine.specs.Owners.{group_kind, inode_rule, is_new, is_same_boot, is_same_owner, inodes_rule, is_same_super, is_same_volume, owner_among, owner_in, owners_of, tree_rule, IsSoundOwner}
 use Rattle.survey_engine.specs.declared.landmark.Landmark.{Landmark}
-use Rattle.survey_engine.specs.declared.landmark.Landmark.TheVariants.{Gpt, Boot, FileRecord, Super, Super5, Agf, Agi, Btrfs as BtrfsSector, Lvm, Ext as ExtSector, Inode, Tree, Inodes, Placed}
+use Rattle.survey_engine.specs.declared.landmark.Landmark.TheVariants.{Gpt, Boot, FileRecord, Super, Super5, Agf, Agi, Btrfs as BtrfsSector, Lvm, Ext as ExtSector, Inode, Tree, Inodes, Placed, Record, Volume}
 use Rattle.survey_engine.specs.Sightings.{sighted_at, Place}
 use Rattle.survey_engine.specs.declared.owner.ExtVolume.{ExtVolume}
 use Rattle.survey_engine.specs.declared.owner.Owner.{Owner}
 use Rattle.survey_engine.specs.declared.owner.Owner.TheVariants.{Table, Ntfs, Xfs, Btrfs, Label, Ext, Xfs5, Trees, Extinode}
 use Rattle.survey_engine.specs.declared.sighting.Sighting.{Sighting}
-
--- ---- what is kept
-
-keeps_one : {A : Type 0} (Q : List A → Type 0) (start : List A) (x : A) (b : Bool) → Q start → (b ≡ true → Q (start ++ x ∷ [])) → Q (cond b (start ++ x ∷ []) start)
-keeps_one Q start x true held step = step refl
-keeps_one Q start x false held step = held
-
-kept_keeps : {A : Type 0} (Q : List A → Type 0) (admits : List A → A → Bool) → ((before : List A) (x : A) → Q before → admits before x ≡ true → Q (before ++ x ∷ [])) → (xs start : List A) → Q start → Q (fold (kept_with admits) start xs)
-kept_keeps Q admits step [] start held = held
-kept_keeps Q admits step (x ∷ xs) start held = kept_keeps Q admits step xs (kept_with admits start x) (keeps_one Q start x (admits start x) held (λ admitted. step start x held admitted))
-
-kept_each : {A : Type 0} (P : A → Type 0) (admits : List A → A → Bool) (xs start : List A) → All P xs → All P start → All P (fold (kept_with admits) start xs)
-kept_each P admits [] start all held = held
-kept_each P admits (x ∷ xs) start all held =
-    kept_each P admits xs (kept_with admits start x) (All-tail P x xs all) (keeps_one (All P) start x (admits start x) held (λ admitted. All-push P start x held (All-head P x xs all)))
-
-cons_each : {Y : Type 0} (P : Y → Type 0) (one : Option Y) (rest : List Y) → IfSome one P → All P rest → All P (cons_option one rest)
-cons_each P None rest here all = all
-cons_each P (Some y) rest here all = All-cons P y rest here all
-
--- what holds of each that a list gives
-pub mapped_each : {X Y : Type 0} (R : X → Type 0) (P : Y → Type 0) (h : X → Option Y) → ((x : X) → R x → IfSome (h x) P) → (xs : List X) → All R xs → All P (filter_map h xs)
-mapped_each R P h gives [] all = All-nil P
-mapped_each R P h gives (x ∷ xs) all = cons_each P (h x) (filter_map h xs) (gives x (All-head R x xs all)) (mapped_each R P h gives xs (All-tail R x xs all))
 
 -- ---- they are of the kind
 
@@ -75,8 +52,8 @@ all_any found = λ k d h. tt
 pub owners_kind : (kind : GroupKind) (found : List Sighting) → All (λ o. group_place (group_kind o) ≡ group_place kind) (owners_of kind found)
 unfolding owners_of
 owners_kind kind found =
-    kept_each (λ o. group_place (group_kind o) ≡ group_place kind) (is_new kind) (filter_map (owner_among kind) found) []
-    (mapped_each any (λ o. group_place (group_kind o) ≡ group_place kind) (owner_among kind) (λ s h. among kind (owner_for kind (sighted_at s) s.landmark)) found (all_any found))
+    kept_each (λ o. group_place (group_kind o) ≡ group_place kind) (is_new kind) (filter_map (owner_among kind (systems_of found)) found) []
+    (mapped_each any (λ o. group_place (group_kind o) ≡ group_place kind) (owner_among kind (systems_of found)) (λ s h. among kind (owner_in (systems_of found) (sighted_at s) s.landmark)) found (all_any found))
     (All-nil (λ o. group_place (group_kind o) ≡ group_place kind))
 
 -- ---- they are sound where the sightings are
@@ -89,50 +66,39 @@ sound_among : (kind : GroupKind) (one : Option Owner) → IfSome one IsSoundOwne
 sound_among kind None is = tt
 sound_among kind (Some o) is = sound_tested o (eqb (group_place (group_kind o)) (group_place kind)) is
 
-sound_in : (at : Place) (l : Landmark) → IsSound l → IfSome (owner_in at l) IsSoundOwner
-sound_in at (Gpt h) is = tt
-sound_in at (Boot b) is = is
-sound_in at (FileRecord r) is = tt
-sound_in at (Super x) is = is
-sound_in at (Super5 x places) is = is.0
-sound_in at (Agf g) is = tt
-sound_in at (Agi g) is = tt
-sound_in at (BtrfsSector b) is = tt
-sound_in at (Lvm n) is = tt
-sound_in at (ExtSector x) is = tt
-sound_in at (Inode i) is = tt
-sound_in at (Tree t) is = sound_tested (Trees t.block.identifier) (is_some (tree_rule t)) tt
-sound_in at (Inodes pair) is = tt
-sound_in at (Placed pair place) is = sound_tested (Extinode place.identifier) (is_some (inodes_rule place)) tt
+-- those of inodes, by the file systems that they are among
+sound_inode : (i : InodeSeen) (places : Option XfsInodes) → IfSome places AreSoundPlaces → IfSome (option_and_then (λ p. cond (is_some (inode_rule p i)) (Some (Xfs5 p)) None) places) IsSoundOwner
+sound_inode i None is = tt
+sound_inode i (Some p) is = sound_tested (Xfs5 p) (is_some (inode_rule p i)) is
 
-sound_inodes : (l : Landmark) → IsSound l → IfSome (inodes_owner l) IsSoundOwner
-sound_inodes (Gpt h) is = tt
-sound_inodes (Boot b) is = tt
-sound_inodes (FileRecord r) is = tt
-sound_inodes (Super x) is = tt
-sound_inodes (Super5 x places) is = is.1
-sound_inodes (Agf g) is = tt
-sound_inodes (Agi g) is = tt
-sound_inodes (BtrfsSector b) is = tt
-sound_inodes (Lvm n) is = tt
-sound_inodes (ExtSector x) is = tt
-sound_inodes (Inode i) is = tt
-sound_inodes (Tree t) is = tt
-sound_inodes (Inodes pair) is = tt
-sound_inodes (Placed pair place) is = tt
+sound_in : (systems : List XfsInodes) (at : Place) (l : Landmark) → All AreSoundPlaces systems → IsSound l → IfSome (owner_in systems at l) IsSoundOwner
+sound_in systems at (Gpt h) all is = tt
+sound_in systems at (Boot b) all is = is
+sound_in systems at (FileRecord r) all is = tt
+sound_in systems at (Super x) all is = is
+sound_in systems at (Super5 x places) all is = is.0
+sound_in systems at (Agf g) all is = tt
+sound_in systems at (Agi g) all is = tt
+sound_in systems at (BtrfsSector b) all is = tt
+sound_in systems at (Lvm n) all is = tt
+sound_in systems at (ExtSector x) all is = tt
+sound_in systems at (Inode i) all is = sound_inode i (system_with systems i.inode.uuid) (system_is systems i.inode.uuid all)
+sound_in systems at (Tree t) all is = sound_tested (Trees t.block.identifier) (is_some (tree_rule t)) tt
+sound_in systems at (Inodes pair) all is = tt
+sound_in systems at (Record r) all is = tt
+sound_in systems at (Volume b) all is = tt
+sound_in systems at (Placed pair place) all is = sound_tested (Extinode place.identifier) (is_some (inodes_rule place)) tt
 
-either_sound : (b : Bool) (one other : Option Owner) → IfSome one IsSoundOwner → IfSome other IsSoundOwner → IfSome (cond b one other) IsSoundOwner
-either_sound true one other is or = is
-either_sound false one other is or = or
-
-sound_for : (kind : GroupKind) (at : Place) (l : Landmark) → IsSound l → IfSome (owner_for kind at l) IsSoundOwner
-sound_for kind at l is = either_sound (is_same_group kind Xfs5Group) (inodes_owner l) (owner_in at l) (sound_inodes l is) (sound_in at l is)
+-- so is the one that a landmark names
+pub sound_named : (systems : List XfsInodes) (at : Place) (l : Landmark) (o : Owner) → All AreSoundPlaces systems → IsSound l → owner_in systems at l ≡ Some o → IsSoundOwner o
+sound_named systems at l o all sound is = subst (λ (r : Option Owner). IfSome r IsSoundOwner) is (sound_in systems at l all sound)
 
 pub owners_sound : (kind : GroupKind) (found : List Sighting) → All (λ s. IsSound s.landmark) found → All IsSoundOwner (owners_of kind found)
 unfolding owners_of
 owners_sound kind found sound =
-    kept_each IsSoundOwner (is_new kind) (filter_map (owner_among kind) found) []
-    (mapped_each (λ s. IsSound s.landmark) IsSoundOwner (owner_among kind) (λ s is. sound_among kind (owner_for kind (sighted_at s) s.landmark) (sound_for kind (sighted_at s) s.landmark is)) found sound)
+    kept_each IsSoundOwner (is_new kind) (filter_map (owner_among kind (systems_of found)) found) []
+    (mapped_each (λ s. IsSound s.landmark) IsSoundOwner (owner_among kind (systems_of found))
+    (λ s is. sound_among kind (owner_in (systems_of found) (sighted_at s) s.landmark) (sound_in (systems_of found) (sighted_at s) s.landmark (systems_sound found sound) is)) found sound)
     (All-nil IsSoundOwner)
 
 -- ---- they are few
@@ -145,7 +111,7 @@ owners_few kind found =
     let room : ltb (length before) (most_groups kind) ≡ true = (and_parts (ltb (length before) (most_groups kind)) (not (list_any (is_same_owner o) before)) fresh).0 in
     let less : length before < most_groups kind = grind (arith, nat_tests) in
     omega (arith, length_push before o))
-    (filter_map (owner_among kind) found) [] (omega arith)
+    (filter_map (owner_among kind (systems_of found)) found) [] (omega arith)
 
 -- ---- no two are one
 
@@ -253,4 +219,4 @@ once_more kind c before o true e held fresh =
 pub owners_once : (kind : GroupKind) (found : List Sighting) (c : Owner) → count_by (λ o. is_same_owner o c) (owners_of kind found) ≤ 1
 unfolding owners_of
 owners_once kind found c =
-    kept_keeps (λ l. count_by (λ o. is_same_owner o c) l ≤ 1) (is_new kind) (λ before o held fresh. once_more kind c before o (is_same_owner o c) refl held fresh) (filter_map (owner_among kind) found) [] (omega arith)
+    kept_keeps (λ l. count_by (λ o. is_same_owner o c) l ≤ 1) (is_new kind) (λ before o held fresh. once_more kind c before o (is_same_owner o c) refl held fresh) (filter_map (owner_among kind (systems_of found)) found) [] (omega arith)

@@ -6,8 +6,11 @@ use Rattle.btrfstree.specs.Header.{is_block, is_counted, tree_block}
 use Rattle.ext_marks.specs.Copy.{is_ext_copy}
 use Rattle.inode_marks.specs.Inode.{any_pair, are_beside, has_extra}
 use Rattle.xfs5.specs.Inode.{begins_inode, is_inode, inode_start, xfs_inode}
+use Rattle.mft.specs.Boot.{is_boot, mft_boot}
+use Rattle.mft.specs.Start.{is_start, record_start}
+use Rattle.survey_engine.proofs.FourthByte.{start_byte, volume_byte}
 use Rattle.survey_engine.proofs.Landmarks.{none_is, not_btrfs, not_gpt, refuted}
-use Rattle.survey_engine.specs.Landmarks.{inner_in, inode_in, landmark_in, last_in, start_in}
+use Rattle.survey_engine.specs.Landmarks.{inner_in, inode_in, landmark_in, last_in, mft_in, record_in, start_in}
 
 -- an inode of XFS has its version
 no_inode : (s : List ℕ) → slice_index s 4 ≢ 3 → begins_inode s ≡ false
@@ -57,9 +60,22 @@ no_pair : (s : List ℕ) → has_extra s 0 ≡ false → any_pair s ≡ None
 unfolding any_pair are_beside
 no_pair s none = rw none refl
 
-none_last : (s : List ℕ) → slice_index s 4 ≢ 3 → is_block s ≡ false → has_extra s 0 ≡ false → last_in s ≡ None
+-- a file record and a boot sector of NTFS have bytes of their own at 3
+no_record : (s : List ℕ) → slice_index s 3 ≢ 69 → record_in s ≡ None
+unfolding record_in record_start
+no_record s other = let none : is_start s ≡ false = refuted (is_start s) (λ yes. other (start_byte s yes)) in rw none refl
+
+no_volume : (s : List ℕ) → slice_index s 3 ≢ 78 → mft_boot s ≡ None
+unfolding mft_boot
+no_volume s other = let none : is_boot s ≡ false = refuted (is_boot s) (λ yes. other (volume_byte s yes)) in rw none refl
+
+no_mft : (s : List ℕ) → slice_index s 3 ≢ 78 → slice_index s 3 ≢ 69 → mft_in s ≡ None
+unfolding mft_in
+no_mft s boot file = rw (no_record s file, no_volume s boot) refl
+
+none_last : (s : List ℕ) → slice_index s 3 ≢ 78 → slice_index s 3 ≢ 69 → slice_index s 4 ≢ 3 → is_block s ≡ false → has_extra s 0 ≡ false → last_in s ≡ None
 unfolding last_in
-none_last s inode block extra = rw (no_xfs s inode, no_block s block, no_pair s extra, no_start s inode) refl
+none_last s boot file inode block extra = rw (no_xfs s inode, no_block s block, no_pair s extra, no_start s inode, no_mft s boot file) refl
 
 none_inner : (s : List ℕ) → slice_index s 64 ≢ 95 → u16_le s 56 ≢ 0xEF53 → inner_in s ≡ None
 unfolding inner_in
@@ -70,4 +86,4 @@ pub none_in : (s : List ℕ) (unit : ℕ) → slice_index s 3 ≢ 32 → slice_i
     → has_extra s 0 ≡ false → landmark_in unit s ≡ None
 unfolding landmark_in
 none_in s unit gpt boot file super agf agi inode block copy btrfs extra =
-    rw (not_gpt s gpt, none_is s (slice_index s 3) refl boot file super agf agi, none_inner s btrfs copy, none_last s inode block extra) refl
+    rw (not_gpt s gpt, none_is s (slice_index s 3) refl boot file super agf agi, none_inner s btrfs copy, none_last s boot file inode block extra) refl

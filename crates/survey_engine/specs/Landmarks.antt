@@ -19,14 +19,17 @@ use Rattle.xfs5.specs.declared.places.XfsInodes.{XfsInodes}
 use Rattle.inode_marks.specs.Inode.{any_pair}
 use Rattle.btrfstree.specs.Header.{tree_block}
 use Rattle.btrfstree.specs.declared.header.TreeBlock.{TreeBlock}
+use Rattle.mft.specs.Boot.{is_near, is_record_size, mft_boot}
+use Rattle.mft.specs.Start.{is_spread, record_start}
+use Rattle.mft.specs.declared.start.RecordStart.{RecordStart}
 use Rattle.mark_kinds.specs.Table.{group_of, is_group_asked}
 use Rattle.mark_kinds.specs.declared.looking.Kinds.{Kinds}
 use Rattle.mark_kinds.specs.declared.sectors.Kind.{Kind}
-use Rattle.mark_kinds.specs.declared.sectors.Kind.TheVariants.{Gpt as GptKind, Boot as BootKind, FileRecord as RecordKind, Super as SuperKind, Agf as AgfKind, Agi as AgiKind, Btrfs as BtrfsKind, Lvm as LvmKind, Ext as ExtKind, Extinode as ExtinodeKind, Xfs5 as Xfs5Kind, Btrfstree as BtrfstreeKind}
+use Rattle.mark_kinds.specs.declared.sectors.Kind.TheVariants.{Gpt as GptKind, Boot as BootKind, FileRecord as RecordKind, Super as SuperKind, Agf as AgfKind, Agi as AgiKind, Btrfs as BtrfsKind, Lvm as LvmKind, Ext as ExtKind, Extinode as ExtinodeKind, Xfs5 as Xfs5Kind, Btrfstree as BtrfstreeKind, Mft as MftKind}
 use Rattle.survey_engine.specs.declared.landmark.GptTable.{GptTable}
 use Rattle.survey_engine.specs.declared.landmark.InodeSeen.{InodeSeen}
 use Rattle.survey_engine.specs.declared.landmark.Landmark.{Landmark}
-use Rattle.survey_engine.specs.declared.landmark.Landmark.TheVariants.{Gpt, Boot, FileRecord, Super, Super5, Agf, Agi, Btrfs, Lvm, Ext, Inode, Tree, Inodes, Placed}
+use Rattle.survey_engine.specs.declared.landmark.Landmark.TheVariants.{Gpt, Boot, FileRecord, Super, Super5, Agf, Agi, Btrfs, Lvm, Ext, Inode, Tree, Inodes, Placed, Record, Volume}
 
 -- the kind of a landmark, without its numbers
 abbrev pub kind_of : Landmark → Kind
@@ -44,6 +47,8 @@ kind_of (Inode i) = Xfs5Kind
 kind_of (Tree t) = BtrfstreeKind
 kind_of (Inodes pair) = ExtinodeKind
 kind_of (Placed pair place) = ExtinodeKind
+kind_of (Record r) = MftKind
+kind_of (Volume b) = MftKind
 
 -- the head of an allocation group of XFS in a sector
 unfoldable pub head_in : List ℕ → Option Landmark
@@ -108,26 +113,39 @@ start_in s = option_map (λ inode. record { inode = inode; bytes = None }) (nth_
 abbrev pub untold : TreeBlock → Landmark
 untold block = Tree (record { block = block; told = None; first = None; second = None })
 
--- the inode of XFS, the tree block of btrfs that begins in a sector, two inodes of ext4, or what may begin a larger inode of XFS
+-- the file record of NTFS that begins in a sector, if it is one that counts
+unfoldable pub record_in : List ℕ → Option RecordStart
+record_in s = option_and_then (λ r. if is_spread r then Some r else None) (record_start s)
+
+-- a file record of NTFS that counts, or a boot sector of a volume of NTFS with clusters of any size
+unfoldable pub mft_in : List ℕ → Option Landmark
+mft_in s = option_or (option_map Record (record_in s)) (option_map Volume (mft_boot s))
+
+-- the inode of XFS, the tree block of btrfs that begins in a sector, two inodes of ext4, what may begin a larger inode of XFS, or what
+-- tells of file records of NTFS
 unfoldable pub last_in : List ℕ → Option Landmark
 last_in s =
     option_or (option_map Inode (inode_in s))
-    (option_or (option_map untold (tree_block s)) (option_or (option_map Inodes (any_pair s)) (option_map Inode (start_in s))))
+    (option_or (option_map untold (tree_block s)) (option_or (option_map Inodes (any_pair s)) (option_or (option_map Inode (start_in s)) (mft_in s))))
 
 -- the landmark that a sector is, if it is one, on a disk whose blocks have `unit` sectors. A header of a
 -- partition table is nothing else, wherever it lies, a sector that is a landmark by its front is none of btrfs or
 -- ext, an inode of XFS of 512 bytes is what is none of these, a tree block of btrfs what is none of these and no such inode, two inodes
--- of ext4 what is no tree block either, and what may begin a larger inode of XFS what is no other landmark
+-- of ext4 what is no tree block either, what may begin a larger inode of XFS what is none of these, and a file record or boot sector of
+-- `mft` what is no other landmark
 unfoldable pub landmark_in : ℕ → List ℕ → Option Landmark
 landmark_in unit s = if is_gpt_header s then table_in unit (gpt_header_of s) else option_or (front_in s) (option_or (inner_in s) (last_in s))
 
--- inodes are looked for of which a landmark says where they lie: a superblock of XFS, or a copy of one of ext
+-- inodes or file records are looked for of which a landmark says where they lie: a superblock of XFS, a copy of one of ext, a boot
+-- sector of NTFS; or it is a file record itself
 abbrev pub has_inodes : Kinds → Landmark → Bool
+has_inodes kinds (Boot b) = kinds.mft
+has_inodes kinds (FileRecord r) = kinds.mft
 has_inodes kinds (Super5 x places) = kinds.xfs5
 has_inodes kinds (Ext x) = kinds.extinode
 has_inodes kinds landmark = false
 
--- a landmark is looked for where its kind is, and also where it says where inodes lie and those are looked for
+-- a landmark is looked for where its kind is, and also where it tells of others that are looked for
 abbrev pub is_asked : Kinds → Landmark → Bool
 is_asked kinds landmark = is_group_asked kinds (group_of (kind_of landmark)) || has_inodes kinds landmark
 
@@ -156,3 +174,5 @@ IsSound (Inode i) = Unit {0}
 IsSound (Tree t) = Unit {0}
 IsSound (Inodes pair) = Unit {0}
 IsSound (Placed pair place) = Unit {0}
+IsSound (Record r) = IsTrue (is_record_size r.bytes)
+IsSound (Volume b) = IsTrue (is_near b)

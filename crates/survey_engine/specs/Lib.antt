@@ -5,9 +5,12 @@ pub mod Exclusion
 pub mod Stretches
 pub mod Sightings
 pub mod Blocks
+pub mod Tables
 pub mod Telling
 pub mod Newest
 pub mod Sizing
+pub mod Systems
+pub mod Majority
 pub mod Owners
 pub mod Origins
 pub mod Surveys

@@ -22,6 +22,7 @@ use Rattle.landmark_rules.specs.declared.marks.Rule.TheVariants.{At, Either, Eve
 use Rattle.survey_engine.specs.Kept.{kept}
 use Rattle.survey_engine.specs.Landmarks.{kind_of}
 use Rattle.survey_engine.specs.Sightings.{sighted_at, Place}
+use Rattle.survey_engine.specs.Systems.{system_with, systems_of}
 use Rattle.survey_engine.specs.declared.landmark.InodePlace.{InodePlace}
 use Rattle.survey_engine.specs.declared.landmark.InodeSeen.{InodeSeen}
 use Rattle.survey_engine.specs.declared.landmark.Landmark.{Landmark}
@@ -99,39 +100,41 @@ inodes_rule place = if nat_lt place.sector (2 ^ 55) then Some (At place.sector) 
 unfoldable pub is_mark_of : XfsInodes → InodeSeen → Bool
 is_mark_of places i = bytes_eq places.uuid i.inode.uuid && option_map_or (λ bytes. bytes == places.inode) i.bytes false && is_mark places i.inode.number
 
+-- where an inode may lie as a mark of an XFS, if it is one and that has its group and block
+abbrev pub inode_rule : XfsInodes → InodeSeen → Option Rule
+inode_rule places i = if is_mark_of places i then option_map At (inode_sector places i.inode.number) else None
+
+-- the owner that an inode of XFS names: of these file systems the one with its identifier, if it is a mark of that
+abbrev pub inode_owner : List XfsInodes → InodeSeen → Option Owner
+inode_owner systems i = option_and_then (λ places. if is_some (inode_rule places i) then Some (Xfs5 places) else None) (system_with systems i.inode.uuid)
+
 -- the owner that a landmark at a place names: a partition table, a file system or a physical volume, or None
--- where it does not say. A tree block of btrfs and two inodes of ext4 name their file system where it is known where they lie
-abbrev pub owner_in : Place → Landmark → Option Owner
-owner_in at (Gpt t) = Some Table
-owner_in at (Boot b) = Some (Ntfs b)
-owner_in at (Super x) = Some (Xfs x)
-owner_in at (Super5 x places) = Some (Xfs x)
-owner_in at (BtrfsSector b) = Some (Btrfs b.fsid)
-owner_in at (Lvm n) = Some (Label at.image at.sector)
-owner_in at (ExtSector x) = Some (Ext (volume_of x))
-owner_in at (Tree t) = if is_some (tree_rule t) then Some (Trees t.block.identifier) else None
-owner_in at (Placed pair place) = if is_some (inodes_rule place) then Some (Extinode place.identifier) else None
-owner_in at landmark = None
+-- where it does not say. An inode of XFS, a tree block of btrfs and two inodes of ext4 name their file system where it is known where they
+-- lie: so an owner of these has a mark. `systems` are the file systems of XFS
+abbrev pub owner_in : List XfsInodes → Place → Landmark → Option Owner
+owner_in systems at (Gpt t) = Some Table
+owner_in systems at (Boot b) = Some (Ntfs b)
+owner_in systems at (Super x) = Some (Xfs x)
+owner_in systems at (Super5 x places) = Some (Xfs x)
+owner_in systems at (BtrfsSector b) = Some (Btrfs b.fsid)
+owner_in systems at (Lvm n) = Some (Label at.image at.sector)
+owner_in systems at (ExtSector x) = Some (Ext (volume_of x))
+owner_in systems at (Inode i) = inode_owner systems i
+owner_in systems at (Tree t) = if is_some (tree_rule t) then Some (Trees t.block.identifier) else None
+owner_in systems at (Placed pair place) = if is_some (inodes_rule place) then Some (Extinode place.identifier) else None
+owner_in systems at landmark = None
 
--- the owner of inodes that a landmark names
-abbrev pub inodes_owner : Landmark → Option Owner
-inodes_owner (Super5 x places) = Some (Xfs5 places)
-inodes_owner landmark = None
-
--- the owner that a landmark at a place names where those of a kind are asked for: a superblock of XFS names two
-abbrev pub owner_for : GroupKind → Place → Landmark → Option Owner
-owner_for kind at landmark = if is_same_group kind Xfs5Group then inodes_owner landmark else owner_in at landmark
-
-abbrev pub owner_among : GroupKind → Sighting → Option Owner
-owner_among kind s = option_and_then (λ owner. if is_same_group (group_kind owner) kind then Some owner else None) (owner_for kind (sighted_at s) s.landmark)
+-- the owner that a sighting names, if it is of a kind
+abbrev pub owner_among : GroupKind → List XfsInodes → Sighting → Option Owner
+owner_among kind systems s = option_and_then (λ owner. if is_same_group (group_kind owner) kind then Some owner else None) (owner_in systems (sighted_at s) s.landmark)
 
 -- an owner that is new, where there is room for one more of its kind
 abbrev pub is_new : GroupKind → List Owner → Owner → Bool
 is_new kind before owner = nat_lt (length before) (most_groups kind) && not (list_any (is_same_owner owner) before)
 
--- the first distinct owners of a kind, in order of their first sightings
+-- the first distinct owners of a kind, in order of the first sightings that name them: of inodes and tree blocks their first marks
 unfoldable pub owners_of : GroupKind → List Sighting → List Owner
-owners_of kind found = kept (is_new kind) (filter_map (owner_among kind) found)
+owners_of kind found = kept (is_new kind) (filter_map (owner_among kind (systems_of found)) found)
 
 -- where file record r may lie, if it has the size of the volume's records: at its place in the table or
 -- in the table's copy
@@ -166,7 +169,7 @@ rule_in (Xfs x) alone at (Agi g) = if alone then ag_rule x g 2 else None
 rule_in (Btrfs fsid) alone at (BtrfsSector b) = if bytes_eq fsid b.fsid then Some (At (b.address / 512)) else None
 rule_in (Label image sector) alone at (Lvm n) = if image == at.image && sector == at.sector then Some (At n) else None
 rule_in (Ext volume) alone at (ExtSector x) = if is_same_volume volume (volume_of x) then Some (At x.copy_sector) else None
-rule_in (Xfs5 places) alone at (Inode i) = if is_mark_of places i then option_map At (inode_sector places i.inode.number) else None
+rule_in (Xfs5 places) alone at (Inode i) = inode_rule places i
 rule_in (Trees identifier) alone at (Tree t) = if bytes_eq identifier t.block.identifier then tree_rule t else None
 rule_in (Extinode identifier) alone at (Placed pair place) = if bytes_eq identifier place.identifier then inodes_rule place else None
 rule_in owner alone at landmark = None

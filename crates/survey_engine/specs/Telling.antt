@@ -11,6 +11,7 @@ use Rattle.btrfstree.specs.Chunks.{first_place, leaf_chunk, second_place}
 use Rattle.btrfstree.specs.Whole.{is_whole}
 use Rattle.btrfstree.specs.declared.header.TreeBlock.{TreeBlock}
 use Rattle.btrfstree.specs.declared.chunks.Chunk.{Chunk}
+use Rattle.mark_kinds.specs.declared.looking.Kinds.{Kinds}
 use Rattle.survey_engine.specs.declared.landmark.InodePlace.{InodePlace}
 use Rattle.survey_engine.specs.declared.landmark.Landmark.{Landmark}
 use Rattle.survey_engine.specs.declared.landmark.Landmark.TheVariants.{Ext, Inode, Inodes, Placed, Tree}
@@ -69,9 +70,9 @@ abbrev pub begins_leaf : Landmark → Bool
 begins_leaf (Tree tree) = tree.block.is_chunk_leaf
 begins_leaf landmark = false
 
--- a sighting is such a leaf, and the image has all its 32 sectors, in images of these lengths
-unfoldable pub is_leaf : List ℕ → Sighting → Bool
-is_leaf lengths s = begins_leaf s.landmark && nat_le (s.sector + 32) (slice_index lengths s.image)
+-- tree blocks of btrfs are looked for, and a sighting is such a leaf of which the image has all 32 sectors, in images of these lengths
+unfoldable pub is_leaf : Bool → List ℕ → Sighting → Bool
+is_leaf asked lengths s = asked && begins_leaf s.landmark && nat_le (s.sector + 32) (slice_index lengths s.image)
 
 -- a landmark without what was told of where it lies, or of how many bytes it has, and a sighting of it
 abbrev pub bare_landmark : Landmark → Landmark
@@ -88,8 +89,8 @@ abbrev pub leaf_of : List (List ℕ) → Sighting → List ℕ
 leaf_of images s = slice_range (slice_index_or images s.image []) (512 * s.sector) (512 * s.sector + 16384)
 
 -- a sighting, once another that may be a leaf was read: one that is not whole tells nothing
-unfoldable pub told_by_leaf : List ℕ → List (List ℕ) → Sighting → Sighting → Sighting
-told_by_leaf lengths images s by = if is_leaf lengths by && is_whole (leaf_of images by) then sighting_with (leaf_of images by) by.landmark s else s
+unfoldable pub told_by_leaf : Bool → List ℕ → List (List ℕ) → Sighting → Sighting → Sighting
+told_by_leaf asked lengths images s by = if is_leaf asked lengths by && is_whole (leaf_of images by) then sighting_with (leaf_of images by) by.landmark s else s
 
 -- ---- copies of superblocks of ext
 
@@ -131,14 +132,14 @@ told_by_copy asked lengths images s by =
 
 -- ---- both
 
--- a sighting, with what another tells of it
-unfoldable pub told_by : Bool → List ℕ → List (List ℕ) → Sighting → Sighting → Sighting
-told_by asked lengths images s by = told_by_copy asked lengths images (told_by_leaf lengths images s by) by
+-- a sighting, with what another tells of it: a leaf where tree blocks of btrfs are looked for, a copy where inodes of ext4 are
+unfoldable pub told_by : Kinds → List ℕ → List (List ℕ) → Sighting → Sighting → Sighting
+told_by asked lengths images s by = told_by_copy asked.extinode lengths images (told_by_leaf asked.btrfstree lengths images s by) by
 
 -- the sightings, each with what all of them tell of it
-unfoldable pub told : Bool → List ℕ → List (List ℕ) → List Sighting → List Sighting
+unfoldable pub told : Kinds → List ℕ → List (List ℕ) → List Sighting → List Sighting
 told asked lengths images found = map (λ s. fold (told_by asked lengths images) s found) found
 
 -- the most sectors that are read for what a sighting tells
-unfoldable pub sectors_by : Bool → List ℕ → Sighting → ℕ
-sectors_by asked lengths s = (if is_leaf lengths s then 32 else 0) + (if has_copy asked lengths s then 256 else 0)
+unfoldable pub sectors_by : Kinds → List ℕ → Sighting → ℕ
+sectors_by asked lengths s = (if is_leaf asked.btrfstree lengths s then 32 else 0) + (if has_copy asked.extinode lengths s then 256 else 0)

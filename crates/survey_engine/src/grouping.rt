@@ -1,24 +1,37 @@
 //! The groups of marks that sightings make.
-ghost use Rattle.std.specs.Prelude.{◌≡◌, ◌++◌, ◌==◌, length, All, IfOk, IfSome, OnOk};
+ghost use Rattle.std.specs.Prelude.{◌≡◌, ◌++◌, ◌==◌, length, All, IfOk, IfSome, IsTrue, OnOk};
 ghost use Rattle.std.specs.List.{flat_map, list_any};
 ghost use Rattle.survey_engine.specs.Kept.{kept_with};
 ghost use Rattle.survey_engine.specs.Landmarks.{IsSound};
+ghost use Rattle.xfs5.specs.Places.{is_sound as is_sound_place};
+ghost use Rattle.survey_engine.specs.Systems.{systems_of};
 ghost use Rattle.survey_engine.specs.Owners.{group_for, groups_asked, groups_in, groups_of, is_new, is_same_owner, owner_among, owners_of, IsSoundOwner};
 
 use crate::owner::Owner;
 use crate::sighting::Sighting;
+use crate::systems::systems_of;
 use landmark_rules::{Group, Groups, Mark, Marks};
 use mark_kinds::{GROUPS, GroupKind, Kinds};
 use outside::{ListOf, Memory};
 use std::alloc::Global;
+use xfs5::XfsInodes;
 
-/// The groups of the sightings that count, of the kinds that are looked for: kind after kind, each kind in the order of first sightings.
+/// The groups of the sightings that count, of the kinds that are looked for: kind after kind, each kind in the order of the first
+/// sightings that name their owners.
 pub fn groups(alloc: Global, asked: &Kinds, found: &[Sighting]) -> Result<Groups, Memory>
     requires { All (λ s. IsSound s.landmark) found.now }
     ensures { IfOk result (λ groups. groups ≡ groups_of asked.now found.now) }
 {
+    let systems = systems_of(alloc, found)?;
     let mut groups = Groups::new(alloc);
-    add_kinds(alloc, asked, &GROUPS, found, &mut groups)?;
+    add_kinds(
+        alloc,
+        asked,
+        &GROUPS,
+        systems.as_slice(),
+        found,
+        &mut groups,
+    )?;
     Ok(groups)
 }
 
@@ -28,14 +41,16 @@ fn add_kinds(
     alloc: Global,
     asked: &Kinds,
     kinds: &[GroupKind],
+    systems: &[XfsInodes],
     found: &[Sighting],
     groups: &mut Groups,
 ) -> Result<(), Memory>
-    requires { All (λ s. IsSound s.landmark) found.now }
+    requires found { All (λ s. IsSound s.landmark) found.now }
+    requires systems { systems.now ≡ systems_of found.now }
     ensures { OnOk result (groups.new ≡ groups.old ++ flat_map (groups_asked asked.now found.now) kinds.now) }
 {
     for kind in kinds {
-        add_asked(alloc, asked, *kind, found, groups)?;
+        add_asked(alloc, asked, *kind, systems, found, groups)?;
     }
     Ok(())
 }
@@ -46,14 +61,16 @@ fn add_asked(
     alloc: Global,
     asked: &Kinds,
     kind: GroupKind,
+    systems: &[XfsInodes],
     found: &[Sighting],
     groups: &mut Groups,
 ) -> Result<(), Memory>
-    requires { All (λ s. IsSound s.landmark) found.now }
+    requires found { All (λ s. IsSound s.landmark) found.now }
+    requires systems { systems.now ≡ systems_of found.now }
     ensures { OnOk result (groups.new ≡ groups.old ++ groups_asked asked.now found.now kind) }
 {
     if asked.has(kind) {
-        add_groups(alloc, kind, found, groups)?;
+        add_groups(alloc, kind, systems, found, groups)?;
     }
     Ok(())
 }
@@ -63,13 +80,15 @@ fn add_asked(
 fn add_groups(
     alloc: Global,
     kind: GroupKind,
+    systems: &[XfsInodes],
     found: &[Sighting],
     groups: &mut Groups,
 ) -> Result<(), Memory>
-    requires { All (λ s. IsSound s.landmark) found.now }
+    requires found { All (λ s. IsSound s.landmark) found.now }
+    requires systems { systems.now ≡ systems_of found.now }
     ensures { OnOk result (groups.new ≡ groups.old ++ groups_in found.now kind) }
 {
-    let owners = owners_of(alloc, kind, found)?;
+    let owners = owners_of(alloc, kind, systems, found)?;
     let alone = owners.as_slice().len() == 1;
     for owner in owners.as_slice() {
         let group = group_for(alloc, found, alone, owner)?;
@@ -79,15 +98,21 @@ fn add_groups(
 }
 
 /// The first distinct owners of a kind.
-#[tactic(auto, using(crate::proofs::Groups::owners_none, crate::proofs::Groups::owners_some, crate::proofs::Groups::owners_same, crate::proofs::Groups::owners_all, crate::proofs::Groups::sound_at))]
-fn owners_of(alloc: Global, kind: GroupKind, found: &[Sighting]) -> Result<ListOf<Owner>, Memory>
-    requires { All (λ s. IsSound s.landmark) found.now }
+#[tactic(auto, using(crate::proofs::Groups::owners_none, crate::proofs::Groups::owners_some, crate::proofs::Groups::owners_same, crate::proofs::Groups::owners_all, crate::proofs::Groups::sound_at, crate::proofs::Stated::sound_systems))]
+fn owners_of(
+    alloc: Global,
+    kind: GroupKind,
+    systems: &[XfsInodes],
+    found: &[Sighting],
+) -> Result<ListOf<Owner>, Memory>
+    requires found { All (λ s. IsSound s.landmark) found.now }
+    requires systems { systems.now ≡ systems_of found.now }
     ensures owners { IfOk result (λ owners. owners ≡ owners_of kind found.now) }
     ensures sound { IfOk result (All IsSoundOwner) }
 {
     let mut owners = ListOf::new(alloc);
     for sighting in found {
-        if let Some(owner) = owner_among(kind, sighting) {
+        if let Some(owner) = owner_among(kind, systems, sighting) {
             add_owner(kind, &mut owners, owner)?;
         }
     }
@@ -108,12 +133,13 @@ fn add_owner(kind: GroupKind, owners: &mut ListOf<Owner>, owner: Owner) -> Resul
 }
 
 /// The owner that a sighting names, where it is one of this kind.
-fn owner_among(kind: GroupKind, sighting: &Sighting) -> Option<Owner>
-    requires { IsSound sighting.now.landmark }
-    ensures owner { result ≡ owner_among kind sighting.now }
+fn owner_among(kind: GroupKind, systems: &[XfsInodes], sighting: &Sighting) -> Option<Owner>
+    requires sighting { IsSound sighting.now.landmark }
+    requires systems { All (λ x. IsTrue (is_sound_place x)) systems.now }
+    ensures owner { result ≡ owner_among kind systems.now sighting.now }
     ensures sound { IfSome result IsSoundOwner }
 {
-    match Owner::of(kind, sighting) {
+    match Owner::named_by(systems, sighting) {
         Some(owner) if owner.group_kind().is_same(kind) => Some(owner),
         _ => None,
     }

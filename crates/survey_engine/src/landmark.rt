@@ -4,7 +4,8 @@ ghost use Rattle.gpt_marks.specs.Header.{gpt_header, IsUnit};
 ghost use Rattle.more_marks.specs.Btrfs.{btrfs_super, is_super_address};
 ghost use Rattle.btrfstree.specs.Header.{is_block, tree_block};
 ghost use Rattle.inode_marks.specs.Inode.{has_extra};
-ghost use Rattle.survey_engine.specs.Landmarks.{front_in, has_inodes, head_in, inner_in, inode_in, is_asked, kind_of, landmark_in, last_in, is_own, record_or_label_in, start_in, super_in, super_of, table_in, untold, IsSound};
+ghost use Rattle.mft.specs.Boot.{is_record_size};
+ghost use Rattle.survey_engine.specs.Landmarks.{front_in, has_inodes, head_in, inner_in, inode_in, is_asked, kind_of, landmark_in, last_in, is_own, mft_in, record_in, record_or_label_in, start_in, super_in, super_of, table_in, untold, IsSound};
 
 use btrfstree::{TreeBlock, read_block};
 use ext_marks::{ExtSuper, MAGIC as EXT_MAGIC, read_ext};
@@ -12,6 +13,7 @@ use gpt_marks::{GptHeader, own_table, read_header};
 use inode_marks::{InodePair, LEAST_EXTRA, MOST_EXTRA, read_any_pair};
 use landmark_rules::Kind;
 use mark_kinds::Kinds;
+use mft::{MftBoot, RecordStart, read_boot as read_volume, read_start as read_record_start};
 use more_marks::{BtrfsSuper, read_btrfs, read_lvm};
 use ntfs_marks::{NtfsBoot, NtfsRecord, read_boot, read_record};
 use sector_fields::{DISTANCE_LIMIT, SECTOR, u16_le, u64_le};
@@ -100,13 +102,17 @@ pub enum Landmark {
     Inodes(InodePair),
     /// Two such inodes, with what a copy of a superblock told of where they lie.
     Placed(InodePair, InodePlace),
+    /// A file record of NTFS that begins a stretch of its table.
+    Record(RecordStart),
+    /// A boot sector of NTFS that is none by the rules of `Boot`, as one of a volume with larger clusters.
+    Volume(MftBoot),
 }
 
 /// The landmark in a sector, on a disk whose blocks have `unit` sectors. A header of a partition table is
 /// nothing else, also where it names a sector of 2^55 or more and so is no landmark. A superblock of btrfs or a
 /// copy of one of ext is what is no landmark by its front, an inode of XFS of 512 bytes what is none of these, a tree block
-/// of btrfs what is no such inode either, two inodes of ext4 what is no tree block either, and what may begin a larger
-/// inode of XFS what is no other landmark.
+/// of btrfs what is no such inode either, two inodes of ext4 what is no tree block either, what may begin a larger inode of
+/// XFS what is none of these, and a file record or boot sector of `mft` what is no other landmark.
 #[tactic(auto, unfolding(crate::specs::Landmarks::landmark_in, gpt_marks::specs::Header::gpt_header))]
 pub fn read_landmark(sector: &[u8; SECTOR], unit: u64) -> Option<Landmark>
     requires { IsUnit unit }
@@ -256,7 +262,8 @@ fn read_larger_start(sector: &[u8; SECTOR]) -> Option<InodeSeen>
     }
 }
 
-/// An inode of XFS, a tree block of btrfs, two inodes of ext4, or what may begin a larger inode of XFS.
+/// An inode of XFS, a tree block of btrfs, two inodes of ext4, what may begin a larger inode of XFS, or what tells of file
+/// records of NTFS.
 #[tactic(auto, unfolding(crate::specs::Landmarks::last_in))]
 fn read_last(sector: &[u8; SECTOR]) -> Option<Landmark>
     ensures landmark { result ≡ last_in sector.now }
@@ -268,9 +275,36 @@ fn read_last(sector: &[u8; SECTOR]) -> Option<Landmark>
             Some(block) => Some(untold(block)),
             None => match read_any_pair(sector) {
                 Some(pair) => Some(Landmark::Inodes(pair)),
-                None => read_larger_start(sector).map(Landmark::Inode),
+                None => match read_larger_start(sector) {
+                    Some(inode) => Some(Landmark::Inode(inode)),
+                    None => read_mft(sector),
+                },
             },
         },
+    }
+}
+
+/// A file record of NTFS that counts, or a boot sector of a volume of NTFS with clusters of any size.
+#[tactic(auto, unfolding(crate::specs::Landmarks::mft_in))]
+fn read_mft(sector: &[u8; SECTOR]) -> Option<Landmark>
+    ensures landmark { result ≡ mft_in sector.now }
+    ensures sound { IfSome result IsSound }
+{
+    match read_spread(sector) {
+        Some(start) => Some(Landmark::Record(start)),
+        None => read_volume(sector).map(Landmark::Volume),
+    }
+}
+
+/// The file record that begins in a sector, if it is one that counts.
+#[tactic(auto, unfolding(crate::specs::Landmarks::record_in))]
+fn read_spread(sector: &[u8; SECTOR]) -> Option<RecordStart>
+    ensures start { result ≡ record_in sector.now }
+    ensures size { IfSome result (λ r. IsTrue (is_record_size r.bytes)) }
+{
+    match read_record_start(sector) {
+        Some(start) if start.is_spread() => Some(start),
+        _ => None,
     }
 }
 
@@ -368,24 +402,27 @@ impl Landmark {
             Landmark::Tree(_) => Kind::Btrfstree,
             Landmark::Inodes(_) => Kind::Extinode,
             Landmark::Placed(_, _) => Kind::Extinode,
+            Landmark::Record(_) => Kind::Mft,
+            Landmark::Volume(_) => Kind::Mft,
         }
     }
 
-    /// Whether landmarks like it are looked for, where these kinds are: also a superblock that says where inodes lie,
-    /// where those are.
+    /// Whether landmarks like it are looked for, where these kinds are: also one that tells of others, where those are.
     pub fn is_asked(&self, kinds: &Kinds) -> bool
         ensures { result ≡ is_asked kinds.now self.now }
     {
         kinds.has(self.kind().group()) || self.has_inodes(kinds)
     }
 
-    /// Whether inodes are looked for of which it says where they lie.
+    /// Whether inodes or file records are looked for of which it tells.
     fn has_inodes(&self, kinds: &Kinds) -> bool
         ensures { result ≡ has_inodes kinds.now self.now }
     {
         match self {
             Landmark::Super5(_, _) => kinds.xfs5,
             Landmark::Ext(_) => kinds.extinode,
+            Landmark::Boot(_) => kinds.mft,
+            Landmark::FileRecord(_) => kinds.mft,
             _ => false,
         }
     }

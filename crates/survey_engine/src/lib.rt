@@ -14,14 +14,16 @@
 //! read after the sweep, in any order: that the newest decide is the law [`newest_leaves_decide`]. An inode of ext4 has
 //! not even its number: that, and where the inode lies, is told by a copy of a
 //! superblock of ext and the descriptors behind it: `specs/Telling`. Of an inode of XFS of 1,024 or 2,048 bytes the sweep
-//! sees the first sector alone, and what lies past it is read then: `specs/Sizing`.
+//! sees the first sector alone, and what lies past it is read then: `specs/Sizing`. Where it lies, the superblocks of its file
+//! system say; if they differ, most of them decide: `specs/Systems`. File records of NTFS are read then too: whole records 0
+//! among them tell where a volume has the others, and each of their tables makes a group: `specs/Tables`.
 //!
 //! What a sector may be stands in `specs/Landmarks`, which are sightings and count in `specs/Sightings`,
 //! groups and the rules of their marks in `specs/Owners`, the origins in `specs/Origins`, and the plan in
 //! `specs/Surveys`. Each filters one list of all sectors; the code looks at each sector once. That no sector is by its
 //! front of two kinds is the law [`no_sector_is_of_two_kinds`]; a superblock of btrfs or ext is what is none of them, an inode of XFS of
-//! 512 bytes what is none of these, a tree block what is no such inode either, two inodes of ext4 what is no tree block either, and
-//! what may begin a larger inode of XFS what is nothing else. That no inode of XFS is passed over that may be a mark is the law
+//! 512 bytes what is none of these, a tree block what is no such inode either, two inodes of ext4 what is no tree block either,
+//! what may begin a larger inode of XFS what is none of these, and a file record or boot sector of `mft` what is nothing else. That no inode of XFS is passed over that may be a mark is the law
 //! [`no_mark_is_passed_over`].
 #![tactic(auto)]
 
@@ -33,6 +35,7 @@ mod gathering;
 mod grouping;
 mod hints;
 mod landmark;
+mod majority;
 mod newest;
 mod owner;
 mod planning;
@@ -40,10 +43,13 @@ mod sighting;
 mod sizing;
 mod stretches;
 mod sweep;
+mod systems;
+mod tables;
 mod telling;
 
 pub use ask::Ask;
 pub use excluding::no_sector_is_of_two_kinds;
+pub use majority::most_superblocks_decide;
 pub use newest::newest_leaves_decide;
 pub use planning::{SurveyFault, survey};
 pub use search_plan::{DropAt, Kinds};

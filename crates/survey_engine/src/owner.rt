@@ -1,5 +1,5 @@
 //! What marks belong to, and where they may lie.
-ghost use Rattle.std.specs.Prelude.{◌≡◌, ◌+◌, ◌*◌, ◌^◌, ◌<◌, ◌≤◌, ◌==◌, false, if◌then◌else◌, Some, None, IsTrue};
+ghost use Rattle.std.specs.Prelude.{◌≡◌, ◌+◌, ◌*◌, ◌^◌, ◌<◌, ◌≤◌, ◌==◌, false, if◌then◌else◌, All, Some, None, IsTrue};
 ghost use Rattle.std.specs.Str.{bytes_eq};
 ghost use Rattle.ntfs_marks.specs.Boot.{is_within_limit, record_sector};
 ghost use Rattle.xfs_marks.specs.Superblock.{ag_sectors, is_sound};
@@ -7,12 +7,13 @@ ghost use Rattle.std.specs.Option.{is_some, option_map, option_map_or};
 ghost use Rattle.landmark_rules.specs.declared.marks.Rule.TheVariants.{At};
 ghost use Rattle.xfs5.specs.Places.{inode_sector, is_sound as is_sound_place};
 ghost use Rattle.survey_engine.specs.Landmarks.{IsSound};
-ghost use Rattle.survey_engine.specs.Owners.{group_kind, ag_rule, inodes_owner, is_same_boot, is_same_owner, is_same_super, is_mark_of, is_same_volume, inodes_rule, owner_for, owner_in, record_rule, rule_in, start_rule, begins_sector, tree_rule, volume_of, IsSoundOwner};
+ghost use Rattle.survey_engine.specs.Owners.{group_kind, ag_rule, inode_owner, inode_rule, is_same_boot, is_same_owner, is_same_super, is_mark_of, is_same_volume, inodes_rule, owner_in, record_rule, rule_in, start_rule, begins_sector, tree_rule, volume_of, IsSoundOwner};
 ghost use Rattle.survey_engine.specs.declared.owner.Owner.TheVariants.{Extinode, Trees};
 ghost use Rattle.survey_engine.specs.Sightings.{sighted_at};
 
 use crate::landmark::{InodePlace, InodeSeen, Landmark, TreeSeen};
 use crate::sighting::Sighting;
+use crate::systems::system_with;
 use ext_marks::ExtSuper;
 use landmark_rules::{GroupKind, Rule};
 use ntfs_marks::{NtfsBoot, NtfsRecord};
@@ -61,30 +62,11 @@ pub enum Owner {
 }
 
 impl Owner {
-    /// The owner that a sighting names where those of a kind are asked for.
-    pub fn of(kind: GroupKind, sighting: &Sighting) -> Option<Owner>
-        ensures { result ≡ owner_for kind (sighted_at sighting.now) sighting.now.landmark }
-    {
-        if kind.is_same(GroupKind::Xfs5) {
-            Owner::of_inodes(&sighting.landmark)
-        } else {
-            Owner::named_by(sighting)
-        }
-    }
-
-    /// The owner of inodes that a landmark names.
-    fn of_inodes(landmark: &Landmark) -> Option<Owner>
-        ensures { result ≡ inodes_owner landmark.now }
-    {
-        match landmark {
-            Landmark::Super5(_, places) => Some(Owner::Xfs5(*places)),
-            _ => None,
-        }
-    }
-
-    /// The owner that a sighting names, but for inodes of XFS. File records, AGF, AGI and such inodes do not say whose they are.
-    fn named_by(sighting: &Sighting) -> Option<Owner>
-        ensures { result ≡ owner_in (sighted_at sighting.now) sighting.now.landmark }
+    /// The owner that a sighting names, where `systems` are the file systems of XFS. File records, AGF and AGI do not say whose
+    /// they are. An inode of XFS, a tree block of btrfs and two inodes of ext4 name their file system if they are marks of it.
+    pub fn named_by(systems: &[XfsInodes], sighting: &Sighting) -> Option<Owner>
+        requires { All (λ x. IsTrue (is_sound_place x)) systems.now }
+        ensures owner { result ≡ owner_in systems.now (sighted_at sighting.now) sighting.now.landmark }
     {
         match &sighting.landmark {
             Landmark::Gpt(_) => Some(Owner::Table),
@@ -97,6 +79,7 @@ impl Owner {
                 sector: sighting.sector,
             }),
             Landmark::Ext(copy) => Some(Owner::Ext(volume_of(copy))),
+            Landmark::Inode(seen) => inodes_of(systems, seen),
             Landmark::Tree(tree) => trees_of(tree),
             Landmark::Placed(_, place) => extinode_of(place),
             _ => None,
@@ -274,10 +257,24 @@ fn has_size(places: &XfsInodes, bytes: Option<u16>) -> bool
     }
 }
 
+/// The owner that an inode of XFS names: of these file systems the one with its identifier, if it is a mark of that.
+#[tactic(auto, using(crate::proofs::Stated::sound_system))]
+fn inodes_of(systems: &[XfsInodes], seen: &InodeSeen) -> Option<Owner>
+    requires { All (λ x. IsTrue (is_sound_place x)) systems.now }
+    ensures { result ≡ inode_owner systems.now seen.now }
+{
+    let places = system_with(systems, &seen.inode.uuid)?;
+    if inode_rule(&places, seen).is_some() {
+        Some(Owner::Xfs5(places))
+    } else {
+        None
+    }
+}
+
 /// Where an inode may lie that is a mark of a file system, if that has its group and block.
 fn inode_rule(places: &XfsInodes, seen: &InodeSeen) -> Option<Rule>
     requires { IsTrue (is_sound_place places.now) }
-    ensures { result ≡ if is_mark_of places.now seen.now then option_map At (inode_sector places.now seen.now.inode.number) else None }
+    ensures { result ≡ inode_rule places.now seen.now }
 {
     if is_mark_of(places, seen) {
         places.inode_sector(seen.inode.number).map(Rule::At)

@@ -10,6 +10,7 @@ use crate::gathering::gather;
 use crate::grouping::groups;
 use crate::hints::origins;
 use crate::sizing::size_inodes;
+use crate::tables::{add_tables, read_tables};
 use crate::telling::tell;
 use arrayvec::ArrayVec;
 use landmark_rules::MarkTests;
@@ -34,10 +35,11 @@ pub enum SurveyFault {
 /// of marks that the sightings make, and the origins that partition tables hint at.
 ///
 /// Each sector from the smallest offset to the end is read once, and at most one sector of entries for
-/// each header of a partition table that counts and that entries follow, where inodes of XFS are looked for 4 sectors from
-/// each that counts on with which one of more than 512 bytes may begin and of which its image has them, 32 sectors for each
-/// leaf of the tree of chunks of a btrfs that counts and that its image has whole, and, where inodes of ext4 are looked for,
-/// 256 sectors from each copy of a superblock of ext on that counts and of which its image has them.
+/// each header of a partition table that counts and that entries follow, where file records of NTFS are looked for 8 sectors
+/// from each on that counts and that its image has whole, where inodes of XFS are looked for 4 sectors from
+/// each that counts on with which one of more than 512 bytes may begin and of which its image has them, where tree blocks of
+/// btrfs are looked for 32 sectors for each leaf of the tree of chunks that counts and that its image has whole, and, where
+/// inodes of ext4 are, 256 sectors from each copy of a superblock of ext on that counts and of which its image has them.
 pub fn survey<I: Images>(alloc: Global, images: &mut I, ask: &Ask) -> Result<Plan, SurveyFault>
     requires { IsSurveyable ask.now (I.seen images.old).attached }
     ensures plan { IfOk result IsPlan }
@@ -52,10 +54,12 @@ pub fn survey<I: Images>(alloc: Global, images: &mut I, ask: &Ask) -> Result<Pla
     let mut found = gather(alloc, images, ask, &lengths)?;
     let asked = ask.tests.origins.as_slice();
     let origins = origins(images, asked, &lengths, &found).map_err(|_| SurveyFault::ReadFault)?;
+    let records = read_tables(alloc, images, &lengths, ask.kinds.mft, &found)?;
     let told = found.as_mut_slice();
     size_inodes(images, &lengths, ask.kinds.xfs5, told).map_err(|_| SurveyFault::ReadFault)?;
-    tell(images, &lengths, ask.kinds.extinode, told).map_err(|_| SurveyFault::ReadFault)?;
-    let groups = groups(alloc, &ask.kinds, told).map_err(|_| SurveyFault::Memory)?;
+    tell(images, &lengths, &ask.kinds, told).map_err(|_| SurveyFault::ReadFault)?;
+    let mut groups = groups(alloc, &ask.kinds, told).map_err(|_| SurveyFault::Memory)?;
+    add_tables(alloc, &records, &mut groups).map_err(|_| SurveyFault::Memory)?;
     Ok(Plan {
         lengths,
         end: ask.end,

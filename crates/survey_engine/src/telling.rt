@@ -12,6 +12,7 @@ use crate::landmark::{Landmark, TreeSeen};
 use crate::owner::is_same_uuid;
 use crate::sighting::Sighting;
 use btrfstree::{TreeBlock, is_whole, read_leaf_chunk};
+use mark_kinds::Kinds;
 use outside::{Failed, Images};
 
 /// The bytes of a leaf.
@@ -35,23 +36,23 @@ pub struct Spot {
     pub second: Option<u64>,
 }
 
-/// Adds to each of the sightings what all of them tell of where it lies: of tree blocks the leaves of the tree of chunks,
-/// and of inodes of ext4, where those are `asked`, the copies of superblocks of ext. Each leaf that its image has whole is
-/// read once, 32 sectors, and 256 sectors from each copy on of which the image has them.
+/// Adds to each of the sightings what all of them tell of where it lies: of tree blocks, where those are `asked`, the leaves
+/// of the tree of chunks, and of inodes of ext4, where those are, the copies of superblocks of ext. Each leaf that its image
+/// has whole is read once, 32 sectors, and 256 sectors from each copy on of which the image has them.
 pub fn tell<I: Images>(
     images: &mut I,
     lengths: &[u64],
-    asked: bool,
+    asked: &Kinds,
     found: &mut [Sighting],
 ) -> Result<(), Failed>
     requires found { AreSightings lengths.now found.old }
     requires lengths { lengths.now ≡ lengths_of (I.seen images.old).attached }
     requires short { All (λ n. n < 2 ^ 55) lengths.now }
     ensures told { OnOk result (IfSome (told_all (I.seen images.old).attached)
-        (λ bytes. found.new ≡ told asked lengths.now bytes found.old)) }
+        (λ bytes. found.new ≡ told asked.now lengths.now bytes found.old)) }
     ensures sightings { OnOk result (AreSightings lengths.now found.new) }
     ensures reads { OnlyReads (I.seen images.old) (I.seen images.new)
-        (32 * count_by (is_leaf lengths.now) found.old + 256 * count_by (has_copy asked lengths.now) found.old) }
+        (32 * count_by (is_leaf asked.now.btrfstree lengths.now) found.old + 256 * count_by (has_copy asked.now.extinode lengths.now) found.old) }
     ensures cause { HasCause (I.seen images.old).faults (I.seen images.new).faults result }
 {
     for place in 0..found.len() {
@@ -65,6 +66,29 @@ pub fn tell<I: Images>(
 fn tell_by<I: Images>(
     images: &mut I,
     lengths: &[u64],
+    asked: &Kinds,
+    by: &Sighting,
+    found: &mut [Sighting],
+) -> Result<(), Failed>
+    requires by { IsInImages lengths.now by.now }
+    requires lengths { lengths.now ≡ lengths_of (I.seen images.old).attached }
+    requires short { All (λ n. n < 2 ^ 55) lengths.now }
+    ensures told { OnOk result (IfSome (told_all (I.seen images.old).attached)
+        (λ bytes. found.new ≡ map (λ s. told_by asked.now lengths.now bytes s by.now) found.old)) }
+    ensures alike { map bare found.new ≡ map bare found.old }
+    ensures reads { OnlyReads (I.seen images.old) (I.seen images.new) (sectors_by asked.now lengths.now by.now) }
+    ensures cause { HasCause (I.seen images.old).faults (I.seen images.new).faults result }
+{
+    tell_by_leaf(images, lengths, asked.btrfstree, by, found)?;
+    tell_by_copy(images, lengths, asked.extinode, by, found)?;
+    Ok(())
+}
+
+/// Adds to each of the sightings what another tells of it, where tree blocks are `asked` and that is a leaf that its image
+/// has whole.
+fn tell_by_leaf<I: Images>(
+    images: &mut I,
+    lengths: &[u64],
     asked: bool,
     by: &Sighting,
     found: &mut [Sighting],
@@ -73,33 +97,12 @@ fn tell_by<I: Images>(
     requires lengths { lengths.now ≡ lengths_of (I.seen images.old).attached }
     requires short { All (λ n. n < 2 ^ 55) lengths.now }
     ensures told { OnOk result (IfSome (told_all (I.seen images.old).attached)
-        (λ bytes. found.new ≡ map (λ s. told_by asked lengths.now bytes s by.now) found.old)) }
+        (λ bytes. found.new ≡ map (λ s. told_by_leaf asked lengths.now bytes s by.now) found.old)) }
     ensures alike { map bare found.new ≡ map bare found.old }
-    ensures reads { OnlyReads (I.seen images.old) (I.seen images.new) (sectors_by asked lengths.now by.now) }
+    ensures reads { OnlyReads (I.seen images.old) (I.seen images.new) (if is_leaf asked lengths.now by.now then 32 else 0) }
     ensures cause { HasCause (I.seen images.old).faults (I.seen images.new).faults result }
 {
-    tell_by_leaf(images, lengths, by, found)?;
-    tell_by_copy(images, lengths, asked, by, found)?;
-    Ok(())
-}
-
-/// Adds to each of the sightings what another tells of it, where that is a leaf that its image has whole.
-fn tell_by_leaf<I: Images>(
-    images: &mut I,
-    lengths: &[u64],
-    by: &Sighting,
-    found: &mut [Sighting],
-) -> Result<(), Failed>
-    requires by { IsInImages lengths.now by.now }
-    requires lengths { lengths.now ≡ lengths_of (I.seen images.old).attached }
-    requires short { All (λ n. n < 2 ^ 55) lengths.now }
-    ensures told { OnOk result (IfSome (told_all (I.seen images.old).attached)
-        (λ bytes. found.new ≡ map (λ s. told_by_leaf lengths.now bytes s by.now) found.old)) }
-    ensures alike { map bare found.new ≡ map bare found.old }
-    ensures reads { OnlyReads (I.seen images.old) (I.seen images.new) (if is_leaf lengths.now by.now then 32 else 0) }
-    ensures cause { HasCause (I.seen images.old).faults (I.seen images.new).faults result }
-{
-    if !is_leaf(lengths, by) {
+    if !is_leaf(asked, lengths, by) {
         return Ok(());
     }
     let mut leaf = [0; LEAF];
@@ -111,14 +114,15 @@ fn tell_by_leaf<I: Images>(
     Ok(())
 }
 
-/// Whether a sighting is a leaf of the tree of chunks that its image has whole.
+/// Whether tree blocks are `asked`, and a sighting is a leaf of the tree of chunks that its image has whole.
 #[tactic(auto, unfolding(crate::specs::Telling::is_leaf))]
-fn is_leaf(lengths: &[u64], sighting: &Sighting) -> bool
+fn is_leaf(asked: bool, lengths: &[u64], sighting: &Sighting) -> bool
     requires sighting { IsInImages lengths.now sighting.now }
     requires short { All (λ n. n < 2 ^ 55) lengths.now }
-    ensures { result ≡ is_leaf lengths.now sighting.now }
+    ensures { result ≡ is_leaf asked lengths.now sighting.now }
 {
-    begins_leaf(&sighting.landmark)
+    asked
+        && begins_leaf(&sighting.landmark)
         && sighting.sector + LEAF_SECTORS <= lengths[sighting.image as usize]
 }
 

@@ -1,5 +1,5 @@
 -- How long the text of a plan is at most.
-use Rattle.std.proofs.Common.{◌≡◌, ℕ, zero, suc, ◌+◌, ◌*◌, ◌^◌, ◌<◌, ◌≤◌, List, [], ◌∷◌, ◌++◌, Bool, true, false, cond, length, map, codes, decimal, refl, ap, ◌∙◌, arith, All, IfSome, IsSomeAnd, Option, None, Some, slice_get, inl, inr, lit≤, lit<}
+use Rattle.std.proofs.Common.{◌≡◌, ℕ, zero, suc, ◌+◌, ◌*◌, ◌^◌, ◌<◌, ◌≤◌, List, [], ◌∷◌, ◌++◌, Bool, true, false, cond, length, map, codes, decimal, refl, ap, subst, sym, ◌∙◌, arith, All, IfSome, IsSomeAnd, Option, None, Some, slice_get, inl, inr, lit≤, lit<}
 use Rattle.std.specs.Prelude.{count_by, ◌==◌}
 use Rattle.std.specs.List.{AllByRecursion, flat_map, join_with_byte}
 use Rattle.std.proofs.Math.Nat.{mul-le-mul}
@@ -8,7 +8,8 @@ use Rattle.std.proofs.lemmas.Fmt.{length-decimal-le}
 use Rattle.std.proofs.lemmas.List.{length-append, length-map}
 use Rattle.std.proofs.lemmas.List.Concat.{flat_map-append}
 use Rattle.std.proofs.lemmas.List.Elements.{All-from_recursion, All-head, All-map, All-tail, All-weaker}
-use Rattle.std.proofs.lemmas.List.Sums.{sum_by-cons}
+use Rattle.std.proofs.lemmas.List.Sums.{sum_by-append, sum_by-cons}
+use Rattle.std.proofs.lemmas.Nat.{pow-add}
 use Rattle.raid_params.specs.declared.types.Level.{Level}
 use Rattle.raid_params.specs.declared.types.Level.TheVariants.{Raid0, Raid5, Raid6}
 use Rattle.raid_params.specs.declared.types.Pattern.{Pattern}
@@ -17,11 +18,11 @@ use Rattle.raid_params.specs.declared.types.Syndrome.{Syndrome}
 use Rattle.raid_params.specs.declared.types.Syndrome.TheVariants.{NoQ, AfterQ, ByData, BySlot}
 use Rattle.raid_params.specs.declared.types.Bounds.{Bounds}
 use Rattle.mark_kinds.specs.declared.groups.GroupKind.{GroupKind}
-use Rattle.mark_kinds.specs.declared.groups.GroupKind.TheVariants.{Gpt as GptGroup, Ntfs as NtfsGroup, Xfs as XfsGroup, Btrfs as BtrfsGroup, Lvm as LvmGroup, Ext as ExtGroup, Extinode as ExtinodeGroup, Xfs5 as Xfs5Group, Btrfstree as BtrfstreeGroup}
+use Rattle.mark_kinds.specs.declared.groups.GroupKind.TheVariants.{Gpt as GptGroup, Ntfs as NtfsGroup, Xfs as XfsGroup, Btrfs as BtrfsGroup, Lvm as LvmGroup, Ext as ExtGroup, Extinode as ExtinodeGroup, Xfs5 as Xfs5Group, Btrfstree as BtrfstreeGroup, Mft as MftGroup}
 use Rattle.mark_kinds.specs.declared.sectors.Kind.{Kind}
-use Rattle.mark_kinds.specs.declared.sectors.Kind.TheVariants.{Gpt, Boot, FileRecord, Super, Agf, Agi, Btrfs, Lvm, Ext, Extinode, Xfs5, Btrfstree}
+use Rattle.mark_kinds.specs.declared.sectors.Kind.TheVariants.{Gpt, Boot, FileRecord, Super, Agf, Agi, Btrfs, Lvm, Ext, Extinode, Xfs5, Btrfstree, Mft}
 use Rattle.mark_kinds.proofs.Counts.{few_in_all}
-use Rattle.landmark_rules.specs.Groups.{group_place, marks_in, AreGroups, AreMarkBounds, IsMark}
+use Rattle.landmark_rules.specs.Groups.{group_place, kind_place, marks_in, AreGroups, AreMarkBounds, IsMark}
 use Rattle.landmark_rules.specs.Rules.{IsRule}
 use Rattle.landmark_rules.specs.declared.marks.Group.{Group}
 use Rattle.landmark_rules.specs.declared.marks.Mark.{Mark}
@@ -79,7 +80,11 @@ syndrome_short AfterQ = lit≤ tt
 syndrome_short ByData = lit≤ tt
 syndrome_short BySlot = lit≤ tt
 
-kind_short : (kind : Kind) → length (kind_name kind) ≤ 9
+-- a name has 6 bytes at most, and two of them 3 more
+abbrev is_kind : ℕ → Kind → ℕ
+is_kind place kind = cond (kind_place kind == place) 1 0
+
+kind_short : (kind : Kind) → length (kind_name kind) ≤ 6 + 3 * (is_kind 9 kind + is_kind 11 kind)
 kind_short Gpt = lit≤ tt
 kind_short Boot = lit≤ tt
 kind_short FileRecord = lit≤ tt
@@ -92,6 +97,7 @@ kind_short Ext = lit≤ tt
 kind_short Extinode = lit≤ tt
 kind_short Xfs5 = lit≤ tt
 kind_short Btrfstree = lit≤ tt
+kind_short Mft = lit≤ tt
 
 group_short : (kind : GroupKind) → length (group_name kind) ≤ 9
 group_short GptGroup = lit≤ tt
@@ -103,6 +109,7 @@ group_short ExtGroup = lit≤ tt
 group_short ExtinodeGroup = lit≤ tt
 group_short Xfs5Group = lit≤ tt
 group_short BtrfstreeGroup = lit≤ tt
+group_short MftGroup = lit≤ tt
 
 -- ---- lines
 
@@ -265,18 +272,6 @@ search_short end bounds limits tests near are_bounds are_limits are_tests =
 
 -- ---- marks
 
-five_digits : (n : ℕ) → n < 10 ^ 5 → length (decimal n) ≤ 5
-five_digits n below = length-decimal-le 5 n (lit< tt) (omega (arith, below)) (omega (arith, below))
-
-eight_digits : (n : ℕ) → n < 10 ^ 8 → length (decimal n) ≤ 8
-eight_digits n below = length-decimal-le 8 n (lit< tt) (omega (arith, below)) (omega (arith, below))
-
-nine_digits : (n : ℕ) → n < 10 ^ 9 → length (decimal n) ≤ 9
-nine_digits n below = length-decimal-le 9 n (lit< tt) (omega (arith, below)) (omega (arith, below))
-
-twelve_digits : (n : ℕ) → n < 10 ^ 12 → length (decimal n) ≤ 12
-twelve_digits n below = length-decimal-le 12 n (lit< tt) (omega (arith, below)) (omega (arith, below))
-
 -- a factor of such a product, beside one that is not small
 beside : (some step count bound : ℕ) → some ≤ step → step * count < 2 ^ 55 → 2 ^ 55 ≤ some * bound → count < bound
 beside some step count bound large product most = elim (cases_lt count bound) [
@@ -284,25 +279,23 @@ beside some step count bound large product most = elim (cases_lt count bound) [
   | inr above ↦ (let least : some * bound ≤ step * count = mul-le-mul large above in absurd (omega (arith, least, product, most)))
 ]
 
--- of two numbers of such a product the one has few digits where the other has many: together they have 22 at most
-factors_short : (step count : ℕ) → step < 2 ^ 55 → count < 2 ^ 55 → step * count < 2 ^ 55 → length (decimal step) + length (decimal count) ≤ 22
-factors_short step count s c product =
-    let turned : count * step < 2 ^ 55 = omega arith in
-    elim (cases_lt step (10 ^ 5)) [
-      | inl small ↦ omega (arith, five_digits step small, sectors_short count c)
-      | inr large ↦
-          elim (cases_lt count (10 ^ 5)) [
-            | inl small ↦ omega (arith, sectors_short step s, five_digits count small)
-            | inr larger ↦
-                elim (cases_lt step (10 ^ 9)) [
-                  | inl middle ↦ omega (arith, nine_digits step middle, twelve_digits count (beside (10 ^ 5) step count (10 ^ 12) large product (lit≤ tt)))
-                  | inr high ↦
-                      omega (arith, twelve_digits step (beside (10 ^ 5) count step (10 ^ 12) larger turned (lit≤ tt)), eight_digits count (beside (10 ^ 9) step count (10 ^ 8) high product (lit≤ tt)))
-                ]
-          ]
-    ]
+-- where the one of two numbers of such a product has so many digits, the other has as many as are left: together they have 18 at most
+digits_below : (k m step count : ℕ) → k + m ≡ 17 → 1 ≤ m → step < 10 ^ (k + 1) → step < 2 ^ 55 → count < 2 ^ 55 → step * count < 2 ^ 55 → length (decimal step) + length (decimal count) ≤ 18
+digits_below zero m step count sum some small s c product =
+    omega (arith, sum, length-decimal-le 1 step (omega arith) small (far step s), sectors_short count c)
+digits_below (suc k) m step count sum some small s c product = elim (cases_lt step (10 ^ (k + 1))) [
+  | inl less ↦ digits_below k (m + 1) step count (omega (arith, sum)) (omega arith) less s c product
+  | inr more ↦ (let all : (k + 1) + m ≡ 17 = omega (arith, sum) in
+      let power : 10 ^ 17 ≡ 10 ^ (k + 1) * 10 ^ m = ap (λ (n : ℕ). 10 ^ n) (sym all) ∙ pow-add 10 (k + 1) m in
+      let wide : 2 ^ 55 ≤ 10 ^ (k + 1) * 10 ^ m = subst (λ (n : ℕ). 2 ^ 55 ≤ n) power (lit≤ tt) in
+      let other : count < 10 ^ m = beside (10 ^ (k + 1)) step count (10 ^ m) more product wide in
+      omega (arith, sum, length-decimal-le (suc k + 1) step (omega arith) small (far step s), length-decimal-le m count (omega (arith, some)) other (far count c)))
+]
 
-rule_short : (rule : Rule) → IsRule rule → length (rule_text rule) ≤ 47
+factors_short : (step count : ℕ) → step < 2 ^ 55 → count < 2 ^ 55 → step * count < 2 ^ 55 → length (decimal step) + length (decimal count) ≤ 18
+factors_short step count s c product = digits_below 16 1 step count refl (omega arith) (omega (arith, s)) s c product
+
+rule_short : (rule : Rule) → IsRule rule → length (rule_text rule) ≤ 43
 rule_short (At d) is = omega (arith, length-append (codes "at") (58 ∷ decimal d), sectors_short d is)
 rule_short (Either d e) is =
     omega (arith, length-append (codes "either") (58 ∷ (decimal d ++ 58 ∷ decimal e)), length-append (decimal d) (58 ∷ decimal e), sectors_short d is.0, sectors_short e is.1)
@@ -322,7 +315,7 @@ sector_near [] i sector all is = absurd is
 sector_near (n ∷ lengths) zero sector all is = omega (arith, All-head (λ n. n < 2 ^ 55) n lengths all, is)
 sector_near (n ∷ lengths) (suc i) sector all is = sector_near lengths i sector (All-tail (λ n. n < 2 ^ 55) n lengths all) is
 
-mark_short : (lengths : List ℕ) (kind : GroupKind) (mark : Mark) → All (λ n. n < 2 ^ 55) lengths → IsMark lengths kind mark → length (mark_line mark) ≤ 83
+mark_short : (lengths : List ℕ) (kind : GroupKind) (mark : Mark) → All (λ n. n < 2 ^ 55) lengths → IsMark lengths kind mark → length (mark_line mark) ≤ 76 + 3 * (is_kind 9 mark.kind + is_kind 11 mark.kind)
 mark_short lengths kind mark all is =
     let image = decimal mark.image in
     let sector = decimal mark.sector in
@@ -339,12 +332,23 @@ mark_short lengths kind mark all is =
       rule_short mark.rule is.rule,
     )
 
-marks_short : (lengths : List ℕ) (kind : GroupKind) (marks : List Mark) → All (λ n. n < 2 ^ 55) lengths → All (IsMark lengths kind) marks → size (map mark_line marks) ≤ length marks * 84
+-- the most bytes of the lines of marks: 77 of each, and 3 more where its name is long
+marks_size : List Mark → ℕ
+marks_size marks = length marks * 77 + 3 * (count_by (λ (m : Mark). kind_place m.kind == 9) marks + count_by (λ (m : Mark). kind_place m.kind == 11) marks)
+
+marks_join : (some more : List Mark) → marks_size (some ++ more) ≡ marks_size some + marks_size more
+unfolding marks_size
+marks_join some more = omega (arith, length-append some more, sum_by-append (λ (m : Mark). is_kind 9 m.kind) some more, sum_by-append (λ (m : Mark). is_kind 11 m.kind) some more)
+
+marks_short : (lengths : List ℕ) (kind : GroupKind) (marks : List Mark) → All (λ n. n < 2 ^ 55) lengths → All (IsMark lengths kind) marks → size (map mark_line marks) ≤ marks_size marks
+unfolding marks_size
 marks_short lengths kind [] all are = omega (arith, size_none)
 marks_short lengths kind (mark ∷ marks) all are =
     omega (
       arith,
       size_cons (mark_line mark) (map mark_line marks),
+      sum_by-cons (λ (m : Mark). is_kind 9 m.kind) mark marks,
+      sum_by-cons (λ (m : Mark). is_kind 11 m.kind) mark marks,
       mark_short lengths kind mark all (All-head (IsMark lengths kind) mark marks are),
       marks_short lengths kind marks all (All-tail (IsMark lengths kind) mark marks are),
     )
@@ -370,7 +374,7 @@ bounds_size (Some bounds) are =
       sectors_short bounds.least are.least,
     )
 
-group_size : (lengths : List ℕ) (group : Group) → All (λ n. n < 2 ^ 55) lengths → HasMarks lengths group → HasBounds group → size (group_lines group) ≤ 66 + length group.marks * 84
+group_size : (lengths : List ℕ) (group : Group) → All (λ n. n < 2 ^ 55) lengths → HasMarks lengths group → HasBounds group → size (group_lines group) ≤ 66 + marks_size group.marks
 group_size lengths group all are bound =
     omega (
       arith,
@@ -382,13 +386,16 @@ group_size lengths group all are bound =
       marks_short lengths group.kind group.marks all are,
     )
 
-groups_size : (lengths : List ℕ) (groups : List Group) → All (λ n. n < 2 ^ 55) lengths → All (HasMarks lengths) groups → All HasBounds groups → size (flat_map group_lines groups) ≤ length groups * 66 + length (marks_in groups) * 84
-groups_size lengths [] all are bound = omega (arith, size_none)
+no_marks : 0 ≤ marks_size []
+no_marks = omega arith
+
+groups_size : (lengths : List ℕ) (groups : List Group) → All (λ n. n < 2 ^ 55) lengths → All (HasMarks lengths) groups → All HasBounds groups → size (flat_map group_lines groups) ≤ length groups * 66 + marks_size (marks_in groups)
+groups_size lengths [] all are bound = omega (arith, size_none, no_marks)
 groups_size lengths (group ∷ groups) all are bound =
     omega (
       arith,
       size_append (group_lines group) (flat_map group_lines groups),
-      length-append group.marks (marks_in groups),
+      marks_join group.marks (marks_in groups),
       group_size lengths group all (All-head (HasMarks lengths) group groups are) (All-head HasBounds group groups bound),
       groups_size lengths groups all (All-tail (HasMarks lengths) group groups are) (All-tail HasBounds group groups bound),
     )
@@ -397,7 +404,7 @@ abbrev is_at : ℕ → Group → Bool
 is_at n group = group_place group.kind == n
 
 one_of : (kind : GroupKind) →
-    1 ≤ cond (group_place kind == 0) 1 0 + cond (group_place kind == 1) 1 0 + cond (group_place kind == 2) 1 0 + cond (group_place kind == 3) 1 0 + cond (group_place kind == 4) 1 0 + cond (group_place kind == 5) 1 0 + cond (group_place kind == 6) 1 0 + cond (group_place kind == 7) 1 0 + cond (group_place kind == 8) 1 0
+    1 ≤ cond (group_place kind == 0) 1 0 + cond (group_place kind == 1) 1 0 + cond (group_place kind == 2) 1 0 + cond (group_place kind == 3) 1 0 + cond (group_place kind == 4) 1 0 + cond (group_place kind == 5) 1 0 + cond (group_place kind == 6) 1 0 + cond (group_place kind == 7) 1 0 + cond (group_place kind == 8) 1 0 + cond (group_place kind == 9) 1 0
 one_of GptGroup = lit≤ tt
 one_of NtfsGroup = lit≤ tt
 one_of XfsGroup = lit≤ tt
@@ -407,10 +414,11 @@ one_of ExtGroup = lit≤ tt
 one_of ExtinodeGroup = lit≤ tt
 one_of Xfs5Group = lit≤ tt
 one_of BtrfstreeGroup = lit≤ tt
+one_of MftGroup = lit≤ tt
 
 -- each group is at the place of its kind
 in_all : (groups : List Group) →
-    length groups ≤ count_by (is_at 0) groups + count_by (is_at 1) groups + count_by (is_at 2) groups + count_by (is_at 3) groups + count_by (is_at 4) groups + count_by (is_at 5) groups + count_by (is_at 6) groups + count_by (is_at 7) groups + count_by (is_at 8) groups
+    length groups ≤ count_by (is_at 0) groups + count_by (is_at 1) groups + count_by (is_at 2) groups + count_by (is_at 3) groups + count_by (is_at 4) groups + count_by (is_at 5) groups + count_by (is_at 6) groups + count_by (is_at 7) groups + count_by (is_at 8) groups + count_by (is_at 9) groups
 in_all [] = omega arith
 in_all (group ∷ groups) =
     omega (
@@ -424,18 +432,20 @@ in_all (group ∷ groups) =
       sum_by-cons (λ g. cond (is_at 6 g) 1 0) group groups,
       sum_by-cons (λ g. cond (is_at 7 g) 1 0) group groups,
       sum_by-cons (λ g. cond (is_at 8 g) 1 0) group groups,
+      sum_by-cons (λ g. cond (is_at 9 g) 1 0) group groups,
       one_of group.kind,
       in_all groups,
     )
 
-few_groups : (lengths : List ℕ) (groups : List Group) → AreGroups lengths groups → length groups ≤ 288
+few_groups : (lengths : List ℕ) (groups : List Group) → AreGroups lengths groups → length groups ≤ 320
 few_groups lengths groups are =
-    omega (arith, in_all groups, are.few GptGroup, are.few NtfsGroup, are.few XfsGroup, are.few BtrfsGroup, are.few LvmGroup, are.few ExtGroup, are.few ExtinodeGroup, are.few Xfs5Group, are.few BtrfstreeGroup)
+    omega (arith, in_all groups, are.few GptGroup, are.few NtfsGroup, are.few XfsGroup, are.few BtrfsGroup, are.few LvmGroup, are.few ExtGroup, are.few ExtinodeGroup, are.few Xfs5Group, are.few BtrfstreeGroup, are.few MftGroup)
 
-few_marks : (lengths : List ℕ) (groups : List Group) → AreGroups lengths groups → length (marks_in groups) ≤ 12 * 4096
+few_marks : (lengths : List ℕ) (groups : List Group) → AreGroups lengths groups → length (marks_in groups) ≤ 13 * 4096
 few_marks lengths groups are = few_in_all (λ (mark : Mark). mark.kind) 4096 (marks_in groups) are.few_marks
 
-groups_short : (lengths : List ℕ) (groups : List Group) → All (λ n. n < 2 ^ 55) lengths → AreGroups lengths groups → size (groups_lines groups) ≤ 288 * 66 + 12 * 4096 * 84 + 5
+groups_short : (lengths : List ℕ) (groups : List Group) → All (λ n. n < 2 ^ 55) lengths → AreGroups lengths groups → size (groups_lines groups) ≤ 320 * 66 + 13 * 4096 * 77 + 3 * (2 * 4096) + 5
+unfolding marks_size
 groups_short lengths groups all are =
     omega (
       arith,
@@ -445,6 +455,8 @@ groups_short lengths groups all are =
       groups_size lengths groups all are.marks are.bounds,
       few_groups lengths groups are,
       few_marks lengths groups are,
+      are.few_marks Extinode,
+      are.few_marks Btrfstree,
     )
 
 -- ---- the plan

@@ -1,5 +1,5 @@
 -- What is asked of a survey, and how it ends.
-use Rattle.std.proofs.Common.{◌≡◌, refl, OnOk, ℕ, ◌<◌, ◌≤◌, ◌^◌, ◌⊎◌, min, max, Bool, true, false, cond, nat_eq, nat_le, get_or, slice_index, zero, ◌+◌, List, [], length, All, None, Some, Option, Result, Ok, Err, IfOk, IfErr, IfSome, sym, ap, ◌∙◌, subst, arith, inl, inr, ◌∷◌, suc}
+use Rattle.std.proofs.Common.{◌≡◌, refl, OnOk, ℕ, ◌<◌, ◌≤◌, ◌^◌, ◌⊎◌, min, max, Bool, true, false, cond, nat_eq, nat_le, get_or, slice_index, zero, ◌+◌, ◌++◌, List, [], length, All, None, Some, Option, Result, Ok, Err, IfOk, IfErr, IfSome, sym, ap, ◌∙◌, subst, arith, inl, inr, ◌∷◌, suc}
 use Rattle.std.proofs.lemmas.Bool.Decides.{nat_tests}
 use Rattle.std.specs.Option.{option_map, option_or}
 use Rattle.std.specs.List.{find, range_with_len}
@@ -32,6 +32,7 @@ use Rattle.search_scope.specs.declared.scope.Limits.{Limits}
 use Rattle.survey_engine.specs.Origins.{origins_of}
 use Rattle.survey_engine.specs.Owners.{groups_of}
 use Rattle.survey_engine.specs.Surveys.{Adds, Repeats, found_in, sized_in, survey_reads as reads_of, IsSurveyable}
+use Rattle.survey_engine.specs.Tables.{table_groups}
 use Rattle.survey_engine.specs.Telling.{told as told_sightings}
 use Rattle.survey_engine.specs.declared.ask.Ask.{Ask}
 use Rattle.asked_values.proofs.Asked.{as_asked, window_is}
@@ -167,7 +168,7 @@ survey_is ask attached bytes plan repeats adds =
     let groups = adds.groups in
     let origins = adds.origins in
     let same : plan_with plan.lengths.items plan.end plan.bounds plan.limits plan.tests.origins.items plan.tests.misfits plan.tests.least plan.groups plan.each
-    ≡ plan_with (lengths_of attached) ask.end ask.bounds ask.limits (origins_of ask.tests.origins.items (lengths_of attached) bytes (found_in ask attached bytes)) ask.tests.misfits ask.tests.least (groups_of ask.kinds (told_sightings ask.kinds.extinode (lengths_of attached) bytes (sized_in ask attached bytes))) ask.each = cc in
+    ≡ plan_with (lengths_of attached) ask.end ask.bounds ask.limits (origins_of ask.tests.origins.items (lengths_of attached) bytes (found_in ask attached bytes)) ask.tests.misfits ask.tests.least (groups_of ask.kinds (told_sightings ask.kinds (lengths_of attached) bytes (sized_in ask attached bytes)) ++ table_groups ask.kinds.mft (lengths_of attached) bytes (found_in ask attached bytes)) ask.each = cc in
     same
 
 -- and its text

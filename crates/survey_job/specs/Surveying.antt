@@ -1,5 +1,5 @@
 -- What `survey` refuses and prints.
-use Rattle.std.specs.Prelude.{ℕ, false, if◌then◌else◌, List, length}
+use Rattle.std.specs.Prelude.{ℕ, false, ◌++◌, if◌then◌else◌, List, length}
 use Rattle.std.specs.Option.{option_map, option_or}
 use Rattle.std.specs.declared.option.Option.{Option}
 use Rattle.std.specs.declared.option.Option.TheVariants.{None}
@@ -9,6 +9,7 @@ use Rattle.search_plan.specs.declared.plan.Plan.{Plan}
 use Rattle.survey_engine.specs.Origins.{origins_of}
 use Rattle.survey_engine.specs.Owners.{groups_of}
 use Rattle.survey_engine.specs.Surveys.{found_in, sized_in, survey_reads as reads_of}
+use Rattle.survey_engine.specs.Tables.{table_groups}
 use Rattle.survey_engine.specs.Telling.{told as told_sightings}
 use Rattle.survey_engine.specs.declared.ask.Ask.{Ask}
 use Rattle.plan_text.specs.PlanText.{plan_text}
@@ -46,7 +47,9 @@ survey_plan ask attached images = record {
     misfits = ask.tests.misfits;
     least = ask.tests.least;
   };
-  groups = groups_of ask.kinds (told_sightings ask.kinds.extinode (lengths_of attached) images (sized_in ask attached images));
+  groups =
+      groups_of ask.kinds (told_sightings ask.kinds (lengths_of attached) images (sized_in ask attached images))
+      ++ table_groups ask.kinds.mft (lengths_of attached) images (found_in ask attached images);
   each = ask.each;
 }
 

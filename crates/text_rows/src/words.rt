@@ -22,7 +22,7 @@ fn refused_word(alloc: Global, line: &str) -> Result<u64, Fail> {
 }
 
 /// Lines with their refused words, counted from 1.
-static REFUSED: [(&str, u64); 152] = [
+static REFUSED: [(&str, u64); 166] = [
     ("", 1),
     ("lists -- a", 1),
     ("LIST -- a", 1),
@@ -181,13 +181,27 @@ static REFUSED: [(&str, u64); 152] = [
     ("--version from=1 -- a", 1),
     ("--helping", 1),
     ("-help", 1),
-    ("help", 1),
+    ("-h --", 1),
+    ("-h -h", 1),
+    ("-h x", 1),
+    ("-h ", 1),
+    ("-H", 1),
+    ("h", 1),
+    ("--h", 1),
+    ("help --", 1),
+    ("help list", 1),
+    ("help x", 1),
+    ("help ", 1),
+    ("helps", 1),
+    ("Help", 1),
+    ("list -h", 2),
+    ("list help -- a", 2),
     ("list --help", 2),
     ("list from=1 --help -- a", 3),
 ];
 
 /// Lines that are command lines.
-static ACCEPTED: [&str; 57] = [
+static ACCEPTED: [&str; 59] = [
     "list --",
     "list -- a",
     "list -- -- a",
@@ -244,6 +258,8 @@ static ACCEPTED: [&str; 57] = [
     "relations form=json offsets=1+0+1 step=36028797018963967 end=0 from=36028797018963967 -- a b c",
     "relations offsets=36028797018963967 -- a",
     "--help",
+    "-h",
+    "help",
     "--version",
 ];
 
@@ -626,7 +642,9 @@ fn relations_have_64_offsets_at_most(rt: HostRuntime) -> Result<(), Fail> {
 #[test]
 fn a_word_alone_asks_for_its_text(rt: HostRuntime) -> Result<(), Fail> {
     let alloc = rt.alloc();
-    assert!(rt; matches!(read_text(alloc, "--help")?, Ok(Command::Help)));
+    for word in &["--help", "-h", "help"] {
+        assert!(rt; matches!(read_text(alloc, word)?, Ok(Command::Help)), "{word}");
+    }
     assert!(rt; matches!(read_text(alloc, "--version")?, Ok(Command::Version)));
     Ok(())
 }

@@ -1,6 +1,8 @@
--- Where the inodes of an XFS of version 5 lie (XFS Algorithms & Data Structures, Superblocks, and Inode Numbers). Numbers are big-endian.
-use Rattle.std.specs.Prelude.{ℕ, ◌+◌, ◌*◌, ◌/◌, ◌%◌, ◌^◌, List, Bool, ◌&&◌, ◌||◌, ◌==◌, nat_le, nat_lt, Option, Some, None, if◌then◌else◌, codes, slice_index}
-use Rattle.sector_fields.specs.Fields.{has_bytes, u16_be, u32_be, uuid_at}
+-- Where the inodes of an XFS of version 5 lie (XFS Algorithms & Data Structures, Superblocks, and Inode Numbers). Numbers are big-endian
+-- but for the checksum.
+use Rattle.std.specs.Prelude.{ℕ, ◌+◌, ◌*◌, ◌/◌, ◌%◌, ◌^◌, List, [], ◌∷◌, ◌++◌, Bool, not, ◌&&◌, ◌||◌, ◌==◌, nat_le, nat_lt, Option, Some, None, if◌then◌else◌, codes, slice_index, slice_range}
+use Rattle.sector_fields.specs.Fields.{has_bytes, u16_be, u32_be, u32_le, uuid_at}
+use Rattle.crc32c.specs.Register.{register_after}
 use Rattle.xfs5.specs.declared.places.XfsInodes.{XfsInodes}
 
 -- the fields of a superblock that say where inodes lie. The identifier that inodes have is sb_meta_uuid where the feature is set.
@@ -34,12 +36,24 @@ has_groups inodes =
 unfoldable pub is_sound : XfsInodes → Bool
 is_sound inodes = has_inode_size inodes && has_block_size inodes && has_groups inodes
 
--- the superblock of version 5 with such numbers
+-- the register that a superblock of 512 bytes leaves, with zeros where it keeps its checksum, from all ones
+unfoldable pub super_register : List ℕ → ℕ
+super_register s = register_after 0xFFFFFFFF (slice_range s 0 224 ++ ((0 ∷ 0 ∷ 0 ∷ 0 ∷ []) ++ slice_range s 228 512))
+
+-- the superblock is whole, where the file system has sectors of 512 bytes: its checksum is that register, inverted. It covers one sector
+-- of the file system, so that of larger ones these are only the first bytes, and it is not looked at
+unfoldable pub is_whole_super : List ℕ → Bool
+is_whole_super s =
+    not (u16_be s 102 == 512)  -- sb_sectsize: u16 at 102
+    || (super_register s + u32_le s 224 == 0xFFFFFFFF)  -- sb_crc: u32 at 224, little-endian
+
+-- the superblock of version 5 with such numbers, whole as far as that is known
 unfoldable pub has_inodes : List ℕ → Bool
 has_inodes s =
     has_bytes s 0 (codes "XFSB")  -- sb_magicnum: 4 bytes at 0
     && (u16_be s 100 % 16 == 5)  -- sb_versionnum: u16 at 100, of which the lowest 4 bits are the version
     && is_sound (inodes_of s)
+    && is_whole_super s
 
 -- those fields, if a sector begins such a superblock
 unfoldable pub xfs_inodes : List ℕ → Option XfsInodes

@@ -1,10 +1,13 @@
 //! Where inodes lie: the fields of a superblock.
 
 ghost use Rattle.std.specs.Prelude.{◌≡◌, ◌<◌, ◌+◌, ◌*◌, ◌/◌, ◌^◌, IfSome, IsTrue};
-ghost use Rattle.xfs5.specs.Places.{block_of, group_of, has_block_size, has_groups, has_inode_size, has_inodes, index_of, inode_sector, inodes_of, is_mark, is_sound, sector_of, xfs_inodes};
+ghost use Rattle.xfs5.specs.Places.{block_of, group_of, has_block_size, has_groups, has_inode_size, has_inodes, index_of, inode_sector, inodes_of, is_mark, is_sound, is_whole_super, sector_of, super_register, xfs_inodes};
 
-use sector_fields::{SECTOR, has_bytes, u16_be, u32_be, uuid_at};
+use sector_fields::{SECTOR, has_bytes, u16_be, u32_be, u32_le, uuid_at};
 use uuid::Uuid;
+
+/// The register with which checksums begin.
+const ALL_ONES: u32 = 0xFFFF_FFFF;
 
 /// The weight of the feature that inodes have an identifier of their own.
 const META_UUID: u32 = 4;
@@ -37,18 +40,41 @@ pub struct XfsInodes {
 /// What the superblock that begins in the sector says (XFS Algorithms & Data Structures, Superblocks). None where none of
 /// version 5 begins: another magic number or version; inodes of another size; a block that does not have just the inodes
 /// that the numbers speak of, or has more than 65,536 bytes; no blocks in a group, or more than numbers have room for;
-/// no groups; or 2^48 blocks in all. Its checksum is not looked at.
+/// no groups; 2^48 blocks in all; or, where the file system has sectors of 512 bytes, a checksum that is not that of the
+/// sector. Of larger sectors only the first bytes are known, and the checksum is not looked at.
 #[tactic(auto, unfolding(crate::specs::Places::xfs_inodes, crate::specs::Places::has_inodes))]
 pub fn read_inodes(sector: &[u8; SECTOR]) -> Option<XfsInodes>
     ensures inodes { result ≡ xfs_inodes sector.now }
     ensures within { IfSome result (λ x. IsTrue (is_sound x)) }
 {
     let found = inodes_of(sector);
-    if has_bytes(sector, 0, b"XFSB") && u16_be(sector, 100) % 16 == 5 && is_sound(&found) {
+    if has_bytes(sector, 0, b"XFSB")
+        && u16_be(sector, 100) % 16 == 5
+        && is_sound(&found)
+        && is_whole(sector)
+    {
         Some(found)
     } else {
         None
     }
+}
+
+/// Whether a superblock is whole, where the file system has sectors of 512 bytes.
+#[tactic(auto, unfolding(crate::specs::Places::is_whole_super))]
+fn is_whole(sector: &[u8; SECTOR]) -> bool
+    ensures { result ≡ is_whole_super sector.now }
+{
+    u16_be(sector, 102) as usize != SECTOR
+        || super_register(sector) as u64 + u32_le(sector, 224) as u64 == ALL_ONES as u64
+}
+
+/// The register that a superblock of 512 bytes leaves.
+#[tactic(auto, unfolding(crate::specs::Places::super_register), using(crate::proofs::Pieces::three_pieces))]
+fn super_register(sector: &[u8; SECTOR]) -> u32
+    ensures { result ≡ super_register sector.now }
+{
+    let front = crc32c::after(crc32c::after(ALL_ONES, &sector[0..224]), &[0, 0, 0, 0]);
+    crc32c::after(front, &sector[228..512])
 }
 
 /// The fields of a superblock, by their places in the sector.

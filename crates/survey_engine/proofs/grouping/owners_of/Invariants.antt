@@ -5,6 +5,6 @@ use Rattle.survey_engine.proofs.grouping.owners_of.Given as goal
 
 abbrev pub invariant-loop-sighting : goal.invariant-loop-sighting
 invariant-loop-sighting l = record {
-  owners : l.owners ≡ owners_to l.kind l.found l.sighting-index;
+  owners : l.owners ≡ owners_to l.kind l.systems l.found l.sighting-index;
   sound : All IsSoundOwner l.owners;
 }

@@ -1,0 +1,10 @@
+pub mod CellKinds
+pub mod Counting
+pub mod Names
+pub mod Readings
+pub mod Reducing
+pub mod Repeats
+pub mod ShapeLemmas
+pub mod Spelled
+pub mod TableLemmas
+pub mod Writing

@@ -119,7 +119,7 @@ _reraid_expects() {
         layouts) echo "layouts in this order: near2,near3,near4,far2,far3,far4,offset2,offset3,offset4" ;;
         chunks) echo "powers of two from 1 to 32768, rising, in sectors of 512 bytes: 128 for 64 KiB" ;;
         offsets | origins) echo "numbers, rising, in sectors of 512 bytes: 2048 for 1 MiB" ;;
-        kinds) echo "kinds in this order: gpt,ntfs,xfs,btrfs,lvm,ext,extinode,xfs5,btrfstree" ;;
+        kinds) echo "kinds in this order: gpt,ntfs,xfs,btrfs,lvm,ext,extinode,xfs5,btrfstree,mft" ;;
         window | end | sector | step) echo "a number, in sectors of 512 bytes: 2097152 for 1 GiB" ;;
         drop) echo "IMAGE:SECTOR,IMAGE:SECTOR.., rising" ;;
         missing | foreign | badrows | misfits | least | from | size | span | pages | slot | number | rows | images) echo "a number" ;;
@@ -156,7 +156,7 @@ _reraid_value() {
         else
             _reraid_list "$before" "$3" 0 2048 262144 264192
         fi ;;
-        kinds) _reraid_list "$before" "$3" gpt ntfs xfs btrfs lvm ext extinode xfs5 btrfstree ;;
+        kinds) _reraid_list "$before" "$3" gpt ntfs xfs btrfs lvm ext extinode xfs5 btrfstree mft ;;
     esac
     [[ $3 =~ ^[0-9]+$ ]] || _reraid_say "$before" "$3" "$expects"
 }
@@ -185,7 +185,7 @@ _reraid() {
     _reraid_words
     COMPREPLY=()
     if ((${#words[@]} == 2)); then
-        _reraid_offer survey list check map write rebuild sample classes mirrors mirrorwrite salvage relations --help --version
+        _reraid_offer survey list check map write rebuild sample classes mirrors mirrorwrite salvage relations help --help --version
         return
     fi
     case ${words[1]} in
@@ -220,9 +220,16 @@ _reraid_mount() {
     local words word options=0
     _reraid_words
     COMPREPLY=()
-    [[ ${#words[@]} == 2 || ${words[1]} != --no-maps ]] || options=1
+    while ((options + 2 < ${#words[@]})); do
+        case ${words[options + 1]} in
+            --no-maps) ((options += 1)) ;;
+            --maps | --end) ((options += 2)) ;;
+            *) break ;;
+        esac
+    done
     case $((${#words[@]} - options)) in
-        2) if [[ $word == -* ]]; then _reraid_offer --no-maps --help --version; else _reraid_set "" "$word" 0 5 6 {near,far,offset}{2,3,4}; fi ;;
+        [01]) _reraid_files ;;
+        2) if [[ $word == -* ]]; then _reraid_offer --no-maps --maps --end --help --version; else _reraid_set "" "$word" 0 5 6 {near,far,offset}{2,3,4}; fi ;;
         *) _reraid_files ;;
     esac
 }
@@ -235,9 +242,10 @@ _reraid_try() {
         --levels) expects="levels of 0,5,6,10" && _reraid_list "" "$word" 0 5 6 10 ;;
         --members) expects="numbers from 2 to 24, lost disks too" && _reraid_list "" "$word" {2..24} ;;
         --first) [[ $word =~ ^[0-9]+[KMGTkmgt]?$ ]] || COMPREPLY=("expected: a size with K, M, G or T behind it: 16G" " ") ;;
-        --time | --every | -j) ;;
+        --time | --every | -j | --case | --examiner) ;;
         *) if [[ $word == -* && ${words[-2]} != --room && ${words[-2]} != --log && ${words[-2]} != --report && ${words[-2]} != --resume ]]; then
-            _reraid_offer --json -x -j --members --levels --first --all --time --every --room --log --resume --report --hash --raw --help --version
+            _reraid_offer --json -x -j --members --levels --first --all --time --every --room --log --resume --report --case --examiner --hash --raw \
+                --clean --help --version
         else
             _reraid_files
         fi ;;

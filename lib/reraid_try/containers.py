@@ -217,7 +217,7 @@ def part_of(name: str, whole: dict[str, str], kind: str | None, head: bytes) -> 
     if name in whole:
         return whole[name]
     if kind == EWF and segment(head) > 1:
-        raise OutsideError(f"{name} is part {segment(head)} of an E01: name its first file, and that alone")
+        raise OutsideError(f"{name} is part {segment(head)} of an E01: give only its first file")
     return None
 
 
@@ -229,7 +229,7 @@ def known(names: Sequence[str], raw: bool = False) -> Known:
     kinds = {name: kind_of(name, *ends[name]) for name in names}
     for name, kind in kinds.items():
         if kind in UNOPENED:
-            raise OutsideError(f"{name} is no raw image ({kind}): {UNOPENED[kind]}")
+            raise OutsideError(f"{name} is not a raw image ({kind}): {UNOPENED[kind]}")
     whole: dict[str, str] = {}
     containers: dict[str, Container] = {}
     lines: list[str] = []
@@ -239,7 +239,7 @@ def known(names: Sequence[str], raw: bool = False) -> Known:
         if name in whole or not parts:
             continue
         if kind is None and are_disks(parts, names):
-            lines.append(f"{name} and those numbered behind it are taken for disks, not for the pieces of one")
+            lines.append(f"{name} and the files numbered after it are read as disks, not as the parts of one")
             whole |= {part: part for part in parts}
             continue
         whole |= {part: name for part in [*parts[1:], *others]}
@@ -266,7 +266,7 @@ def container_of(name: str, containers: dict[str, Container], lines: list[str]) 
     it = containers.get(name)
     said_kind = ENDINGS.get(os.path.splitext(name)[1].lower())
     if it is None:
-        lines += [f"{name}: its name says {said_kind}, and its bytes do not: it is read as a raw image"] if said_kind else []
+        lines += [f"{name}: its contents are not {said_kind}, as its name suggests; it is read as a raw image"] if said_kind else []
         return name
     if it.kind == SPLIT and (lost := gap(it.parts)):
         raise OutsideError(f"{name} is split into several files, and {lost} is missing")

@@ -1,9 +1,12 @@
 """The command line of reraid-try: one run, and its status."""
 
+import contextlib
 import dataclasses
 import os
+import shlex
 import signal
 import sys
+import tempfile
 from collections.abc import Sequence
 from types import FrameType
 
@@ -11,6 +14,7 @@ from . import containers, resuming
 from .calls.commands import Commands, Log, Runner
 from .calls.memory import Memory, Remembering
 from .casefile.gathering import Casefile
+from .checks import leftovers
 from .checks.verdicts import Score
 from .checks.volumes import Room
 from .errors import OutsideError, Stopped, said_of
@@ -23,16 +27,19 @@ from .units import counted
 
 SIGNED, NONE, OUTSIDE, INTERRUPTED = 0, 1, 3, 130
 CLOSED = 128 + signal.SIGPIPE
-AT_ITS_END = """A run that comes to its end prints the sets that are nearest, with the rows in which parity does not hold. --levels and --members,
-with what you know of the array, bring it there sooner."""
-NONE_GOOD = f"interrupted, and no candidate until then is good: a checker found fault in each, or nothing is known in it. {AT_ITS_END}"
-NOT_TESTED = f"interrupted before a volume was looked at. {AT_ITS_END}"
+# The signals that end a run, which then prints what it found.
+ENDING = (signal.SIGINT, signal.SIGTERM, signal.SIGHUP)
+AT_ITS_END = """A complete run prints the nearest layouts, with their inconsistent rows. If you know more of the array, --levels and --members \
+shorten the search."""
+NONE_GOOD = f"interrupted. No candidate so far has a rating: a checker reports errors, or nothing is recognized. {AT_ITS_END}"
+NOT_TESTED = f"interrupted before any volume was checked. {AT_ITS_END}"
 
 
 def main(words: Sequence[str]) -> int:
     """One run, and its status: that of a program that a closed pipe ends, where nobody reads what is printed."""
     try:
-        return with_log(read_words(words), words)
+        options = read_words(words)
+        return clean(options.room) if options.clean else with_log(options, words)
     except BrokenPipeError:
         os.dup2(os.open(os.devnull, os.O_WRONLY), sys.stdout.fileno())
         return CLOSED
@@ -43,13 +50,43 @@ def main(words: Sequence[str]) -> int:
     except OSError as error:
         return failed(said_of(error))
     except MemoryError:
-        return failed("there is not enough memory")
+        return failed("out of memory; -j 1 needs less")
 
 
 def failed(why: str) -> int:
     """Says why a run cannot go on, and its status."""
-    print(f"reraid-try: {why}", file=sys.stderr)
+    with contextlib.suppress(OSError):
+        print(f"reraid-try: {why}", file=sys.stderr)
     return OUTSIDE
+
+
+def clean(room: str | None) -> int:
+    """Remove what killed runs left, with a line for each, and return the status."""
+    left = leftovers.left_in(room)
+    if not left:
+        print(f"no killed run left anything in {os.path.abspath(room or tempfile.gettempdir())}")
+    kept = False
+    for it in left:
+        if leftovers.remove(it):
+            print(f"removed {it.what()}")
+        else:
+            kept = True
+            print(f"reraid-try: {it.what()} could not be removed: a program uses it, or it belongs to another user", file=sys.stderr)
+    return OUTSIDE if kept else SIGNED
+
+
+def say_left(room: str | None, report: Report) -> None:
+    """Say what killed runs left in the folder for volumes, and how to remove it."""
+    for it in leftovers.left_in(room):
+        words = ["reraid-try", "--clean", *(["--room", room] if room else [])]
+        report.say("left", f"a killed run left {it.what()}. To remove it:\n    {shlex.join(words)}", folder=it.folder, mounts=list(it.mounts),
+                   processes=list(it.processes))
+
+
+def ignore_endings() -> None:
+    """Ignore the signals that end a run from now on: it is about to end."""
+    for number in ENDING:
+        signal.signal(number, signal.SIG_IGN)
 
 
 def with_log(options: Options, words: Sequence[str]) -> int:
@@ -58,7 +95,7 @@ def with_log(options: Options, words: Sequence[str]) -> int:
     try:
         report = Report(options.as_json, options.every)
         if log and log.had:
-            report.say("log", f"{log.name} has {counted(log.had, 'byte')} already: the log goes on behind them", log=log.name, had=log.had)
+            report.say("log", f"{log.name} has {counted(log.had, 'byte')} already: the log is appended", log=log.name, had=log.had)
         return run_once(options, words, report, log)
     finally:
         if log:
@@ -69,17 +106,21 @@ def run_once(options: Options, words: Sequence[str], report: Report, log: Log | 
     """One run, and its status."""
     commands = Commands(log, report.command if options.show else None, report.progress if report.bar.there else None)
 
-    def stop(_number: int, _frame: FrameType | None) -> None:
-        """Ends all commands, and then the run, which still prints its table."""
-        for number in (signal.SIGINT, signal.SIGTERM):
-            signal.signal(number, signal.SIG_IGN)
+    def stop(number: int, _frame: FrameType | None) -> None:
+        """Ends all commands, and then the run, which still prints its table. After SIGHUP nobody may read that."""
+        ignore_endings()
+        if number == signal.SIGHUP:
+            report.hang_up()
         commands.stop()
         raise Stopped
-    for number in (signal.SIGINT, signal.SIGTERM):
-        signal.signal(number, stop)
+    for number in ENDING:
+        # A run under nohup goes on when its terminal is closed.
+        if number != signal.SIGHUP or signal.getsignal(number) != signal.SIG_IGN:
+            signal.signal(number, stop)
     casefile = room = opener = memory = None
     report.bar.watch()
     try:
+        say_left(options.room, report)
         casefile = Casefile(options, words, report, commands)
         room = Room(commands, options.room)
         opener = Opener(room.base, commands.note)
@@ -91,6 +132,7 @@ def run_once(options: Options, words: Sequence[str], report: Report, log: Log | 
         report.say("interrupted", NOT_TESTED, interrupted=True)
         return INTERRUPTED
     finally:
+        ignore_endings()
         commands.stop()
         if opener:
             opener.close()
@@ -122,10 +164,11 @@ def with_containers(options: Options, report: Report, opener: Opener) -> Options
 def searched(search: Search, report: Report, casefile: Casefile) -> int:
     """What a search comes to, and the status of the run."""
     try:
-        casefile.begin(search.options.images)
+        casefile.begin(search.options.images, search.options.opened)
         search.run()
         resuming.end(search.memory, report)
         table.show(report, search.tested, search.images)
+        search.say_answer()
         status = SIGNED if search.best() >= Score.CHECKED else NONE
         casefile.end(search, status)
         return status

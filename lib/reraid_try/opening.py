@@ -19,6 +19,8 @@ MOST_SECONDS = 60.0
 STEP = 0.05
 # The folder of the lines to type, in which each container has one of its own.
 BY_HAND = "opened"
+# The line that waits until a container is open, so that the next line finds it.
+WAIT = "timeout 60 sh -c 'until [ -e {0} ]; do sleep 0.1; done'"
 
 
 @dataclasses.dataclass
@@ -65,15 +67,15 @@ class Opener:
         missing = [tool for tool in it.tools() if not shutil.which(tool)]
         if missing:
             packages = " ".join(dict.fromkeys(PACKAGES[tool] for tool in missing))
-            raise OutsideError(f"{it.line()}, which is no raw image: {' and '.join(missing)} would open it (Debian: apt install {packages}); "
-                               "--raw searches the files as they are")
+            raise OutsideError(f"{it.line()}: this is not a raw image. To open it, install {' and '.join(missing)} (Debian: apt install {packages}). "
+                               "--raw searches the file as it is")
         try:
             wrong = fault(it)
         except OSError as error:
-            raise OutsideError(f"{it.line()}, and it cannot be read: {said(error)}") from error
+            raise OutsideError(f"{it.line()} cannot be read: {said(error)}") from error
         if wrong:
-            raise OutsideError(f"{it.line()}, and it is not whole: {wrong}. What is missing would look like zeros, so nothing is searched; opened by "
-                               "hand (docs/IMAGES.md) it can be all the same")
+            raise OutsideError(f"{it.line()} is incomplete: {wrong}. The missing part would look like zeros, so nothing is searched. To search it "
+                               "nevertheless, open it by hand (docs/IMAGES.md)")
         folder = os.path.join(self.base, f"opened{len(self.mounts)}")
         os.mkdir(folder)
         words = it.command(folder)
@@ -83,7 +85,7 @@ class Opener:
         if failed is None and os.path.getsize(path) < SECTOR:
             failed = "it shows a disk without a sector"
         if failed is not None:
-            raise OutsideError(f"{it.line()}, and {it.tools()[0]} does not open it: {failed or 'it says nothing'}")
+            raise OutsideError(f"{it.line()}: {it.tools()[0]} does not open it: {failed or 'it prints no reason'}")
         return path
 
     def begin(self, it: Container, words: Sequence[str], folder: str, path: str) -> str | None:
@@ -125,4 +127,7 @@ def by_hand(it: Container, number: int) -> tuple[tuple[str, ...], str]:
     """The lines that open a container in a shell, and the image that is there then."""
     folder = os.path.join(BY_HAND, str(number))
     line = shlex.join(it.command(folder, typed)).replace("'['", "[").replace("']'", "]")
-    return (f"mkdir -p {folder}", line + (" &" if it.goes_on() else "")), os.path.join(folder, it.shown())
+    shown = os.path.join(folder, it.shown())
+    if not it.goes_on():
+        return (f"mkdir -p {folder}", line), shown
+    return (f"mkdir -p {folder}", f"{line} &", WAIT.format(shown)), shown

@@ -1,4 +1,4 @@
-"""The words of the command line."""
+"""The arguments of the command line."""
 
 import argparse
 import dataclasses
@@ -6,9 +6,10 @@ import os
 import shutil
 from collections.abc import Sequence
 
+from reraid_words import names
+
 from . import containers, units
-from .casefile import host
-from .evidence import images
+from .casefile import host, writing
 from .opening import Opened
 from .report.report import MINUTE
 
@@ -20,12 +21,11 @@ LEAST_FIRST, USUAL_FIRST, USUAL_SECONDS = units.MIB, 16 * units.GIB, 60
 PART, LEAST_SECONDS = 6, 5
 
 ABOUT = """\
-From images of the disks of a lost array to its candidates. It looks at the images, surveys them for landmarks, takes hints from these,
-lists the parameter sets that pass, loosens one thing after another where none does, and lets the checkers of file systems read the volume
-of each candidate. It reads the images alone, and chooses nothing: the last table has all that was found."""
+Find the layout of a RAID array from images of its disks. reraid-try surveys the images for landmarks and parity, and lists the layouts that
+pass. If none passes, it relaxes one test after another. File system checkers then read the volume of each candidate. It only reads the images,
+and does not choose between candidates: the last list has all of them."""
 
-STATUSES = "status: 0 where a candidate has + or ++, 1 where none has, 2 where the words are wrong, 3 where something outside failed, 130 where it " \
-           "was interrupted"
+STATUSES = "status: 0 a candidate is rated + or ++, 1 none is, 2 wrong arguments, 3 I/O or another program failed, 130 interrupted"
 
 
 @dataclasses.dataclass(frozen=True)
@@ -33,7 +33,8 @@ class Options:
     """What is asked for. `first` is how many bytes of each image are read, `seconds` how long a trial may take, `question` how long a question,
     where that is not the usual part of it, `members` the numbers of members that are tried, None where hints say them, `report` the file of the
     page, `hashes` whether digests are taken, `raw` whether images in containers are searched as they are, `resume` the file that keeps what was
-    answered, `opened` the containers that were opened, `every` after how many seconds a line says what is at work."""
+    answered, `opened` the containers that were opened, `every` after how many seconds a line says what is at work. `clean` asks to
+    remove what killed runs left, in place of a search. `case` and `examiner` stand in the report."""
 
     images: tuple[str, ...]
     as_json: bool = False
@@ -52,6 +53,9 @@ class Options:
     opened: tuple[Opened, ...] = ()
     every: int = MINUTE
     question: int | None = None
+    clean: bool = False
+    case: str = ""
+    examiner: str = ""
 
     @property
     def question_seconds(self) -> int:
@@ -68,20 +72,20 @@ def size(text: str) -> int:
     unit = UNITS.get(text[-1:].upper(), 1)
     digits = text[:-1] if unit > 1 else text
     if not digits.isdecimal():
-        raise argparse.ArgumentTypeError(f"{text}: a size is a number with K, M, G or T behind it, as 16G")
+        raise argparse.ArgumentTypeError(f"{text}: give a size in bytes, or with K, M, G or T, such as 16G")
     value = int(digits) * unit
     if value < LEAST_FIRST:
-        raise argparse.ArgumentTypeError("less than 1M")
+        raise argparse.ArgumentTypeError(f"{text}: give at least 1M")
     return value
 
 
 def members(text: str) -> tuple[int, ...]:
     """Numbers of members."""
     if not all(part.isdecimal() for part in text.split(",")):
-        raise argparse.ArgumentTypeError(f"{text}: members are numbers with commas between, as 4,5")
+        raise argparse.ArgumentTypeError(f"{text}: give numbers of disks, separated by commas, such as 4,5")
     values = tuple(int(part) for part in text.split(","))
     if not all(LEAST_MEMBERS <= value <= units.MOST_IMAGES for value in values):
-        raise argparse.ArgumentTypeError(f"members are {LEAST_MEMBERS} to {units.MOST_IMAGES}")
+        raise argparse.ArgumentTypeError(f"{text}: give numbers of disks from {LEAST_MEMBERS} to {units.MOST_IMAGES}")
     return values
 
 
@@ -89,7 +93,7 @@ def levels(text: str) -> tuple[str, ...]:
     """Levels, as 0,5,6,10."""
     values = tuple(text.split(","))
     if not set(values) <= set(LEVELS):
-        raise argparse.ArgumentTypeError(f"{text}: levels are of 0, 5, 6 and 10, with commas between (RAID 4 is among 5)")
+        raise argparse.ArgumentTypeError(f"{text}: give levels out of 0, 5, 6 and 10, separated by commas (5 includes RAID 4)")
     return values
 
 
@@ -97,49 +101,55 @@ def positive(text: str) -> int:
     """A number above 0."""
     value = int(text) if text.isdecimal() else 0
     if value < 1:
-        raise argparse.ArgumentTypeError("not above 0")
+        raise argparse.ArgumentTypeError(f"{text}: give a whole number above 0")
     return value
 
 
 def parser() -> argparse.ArgumentParser:
     """The words."""
     it = argparse.ArgumentParser(prog="reraid-try", description=ABOUT, epilog=STATUSES)
-    it.add_argument("images", nargs="+", metavar="IMAGE", help="an image of a disk; IMAGE.map beside it is taken for its map of ddrescue")
+    it.add_argument("images", nargs="*", metavar="IMAGE", help="an image of a disk; reraid-try uses IMAGE.map beside it as its ddrescue mapfile")
     it.add_argument("--version", action="version", version=f"reraid-try {host.version()}")
-    it.add_argument("--json", action="store_true", help="print an object a line")
-    it.add_argument("-x", action="store_true", help="show each trial with its command")
-    it.add_argument("-j", dest="jobs", type=positive, default=os.cpu_count() or 1, metavar="N", help="how many commands run side by side")
-    it.add_argument("--members", type=members, metavar="LIST", help="numbers of members to try, lost disks too (default: by the hints, and more)")
-    it.add_argument("--levels", type=levels, default=LEVELS, metavar="LIST", help="levels to try, of 0, 5, 6 and 10")
-    it.add_argument("--first", type=size, default=USUAL_FIRST, metavar="SIZE", help="read so much of each image (default: 16G)")
-    it.add_argument("--all", action="store_true", help="read the images wholly")
-    it.add_argument("--time", type=positive, default=USUAL_SECONDS, metavar="SECONDS", help="the most seconds of a trial (default: 60)")
+    it.add_argument("--json", action="store_true", help="print one JSON object per line")
+    it.add_argument("-x", action="store_true", help="print each search step with its command")
+    it.add_argument("-j", dest="jobs", type=positive, default=os.cpu_count() or 1, metavar="N",
+                    help="number of commands that run concurrently (default: the number of processors)")
+    it.add_argument("--members", type=members, metavar="LIST",
+                    help="numbers of disks to try, including missing ones (default: by the hints, and more)")
+    it.add_argument("--levels", type=levels, default=LEVELS, metavar="LIST", help="levels to try, out of 0, 5, 6 and 10 (default: all)")
+    it.add_argument("--first", type=size, default=USUAL_FIRST, metavar="SIZE", help="read this much of each image (default: 16G)")
+    it.add_argument("--all", action="store_true", help="read all of each image")
+    it.add_argument("--time", type=positive, default=USUAL_SECONDS, metavar="SECONDS", help="maximum time of a search step in seconds (default: 60)")
     it.add_argument("--every", type=positive, default=MINUTE, metavar="SECONDS",
-                    help="where standard error is no terminal, say after so many seconds what is at work (default: 60)")
-    it.add_argument("--room", metavar="DIR", help="where volumes are written and mounted (default: the folder of temporary files)")
-    it.add_argument("--log", metavar="FILE", help="keep every command there, with its status and its seconds, behind what it has already")
-    it.add_argument("--resume", metavar="FILE", help="keep there what was asked and answered, and go on with what a run that was ended kept")
-    it.add_argument("--report", metavar="FILE", help="write a page of all of it there, for a case file: HTML with pictures of the disks")
-    it.add_argument("--hash", dest="hashes", action="store_true", help="take the SHA-256 of each image beside the search")
-    it.add_argument("--raw", action="store_true", help="search images in containers (E01, .001, qcow2, VMDK, VHD) as they are")
+                    help="if standard error is no terminal, report progress after this many seconds (default: 60)")
+    it.add_argument("--room", metavar="DIR", help="folder in which volumes are written and mounted (default: the folder for temporary files)")
+    it.add_argument("--log", metavar="FILE", help="append every command to FILE, with its status and time")
+    it.add_argument("--resume", metavar="FILE", help="save all answers in FILE; a later run with FILE continues from them")
+    it.add_argument("--report", metavar="FILE", help="write an HTML report for a case file, with pictures of the disks")
+    it.add_argument("--case", default="", metavar="TEXT", help="the number or name of the case, for the report")
+    it.add_argument("--examiner", default="", metavar="TEXT", help="the name of the examiner, for the report")
+    it.add_argument("--hash", dest="hashes", action="store_true", help="compute the SHA-256 of each image during the search")
+    it.add_argument("--clean", action="store_true", help="remove folders, mounts and processes that killed runs left; give no image")
+    it.add_argument("--raw", action="store_true", help="do not open containers (E01, .001, qcow2, VMDK, VHD); search the files as they are")
     return it
 
 
 def read_words(words: Sequence[str]) -> Options:
     """The options of the words; the run ends with status 2 where they are wrong."""
     asking = parser()
-    it = asking.parse_args(words)
-    if it.report and os.path.lexists(it.report):
-        asking.error(f"--report {it.report} is there already, and is not written over")
-    for name in it.images:
-        if not images.is_image(name):
-            asking.error(f"{name} is no file and no block device that can be read")
+    it = asking.parse_args(["--help"] if list(words) == ["help"] and not os.path.exists("help") else words)
+    if bool(it.images) == it.clean:
+        asking.error("--clean takes no image" if it.clean else "give the images of all disks, such as *.img")
+    if (told := writing.not_written_over(it.report, it.resume)):
+        asking.error(told)
+    if (wrong := names.faults(it.images)):
+        asking.error("; ".join(wrong))
     # Of an image in many files all may be named.
     if len(it.images) > units.MOST_IMAGES and len(containers.known(it.images, it.raw).images) > units.MOST_IMAGES:
-        asking.error(f"more than {units.MOST_IMAGES} images")
+        asking.error(f"{len(it.images)} images: at most {units.MOST_IMAGES} can be searched at once")
     if it.room and not os.path.isdir(it.room):
-        asking.error(f"{it.room} is no folder")
-    if not shutil.which("reraid"):
-        asking.error("there is no reraid on the PATH")
+        asking.error(f"--room {it.room}: this is not a folder")
+    if not it.clean and not shutil.which("reraid"):
+        asking.error("the program reraid is not on the PATH: install it, or add its folder")
     return Options(tuple(it.images), it.json, it.x, it.jobs, it.members, it.levels, units.ALL if it.all else it.first, it.time, it.room, it.log,
-                   it.report, it.hashes, it.raw, it.resume, every=it.every)
+                   it.report, it.hashes, it.raw, it.resume, every=it.every, clean=it.clean, case=it.case, examiner=it.examiner)

@@ -49,11 +49,10 @@ def begin(options: Options, words: Sequence[str], report: Report) -> Memory | No
     memory = Memory(options.resume, head_of(options), {"began": host.now(), "words": list(words)})
     answers, looks = memory.had
     if memory.runs:
-        told = (f"{memory.name} has {counted(answers, 'answer')} of reraid and {counted(looks, 'volume')} that {'was' if looks == 1 else 'were'} "
-                f"looked at, of {counted(len(memory.runs), 'run')} over these images, the last begun {memory.runs[-1]['began']}: what is asked again "
-                "is taken from there")
+        told = (f"{memory.name} has {counted(answers, 'answer')} of reraid and {counted(looks, 'checked volume')}, from "
+                f"{counted(len(memory.runs), 'run')} over these images, the last begun {memory.runs[-1]['began']}. This run reuses them")
     else:
-        told = f"{memory.name} is new: what reraid answers, and what is found in volumes, is kept there; the same words go on with it"
+        told = f"{memory.name} is new, and will keep all answers. To continue an interrupted run, repeat the command"
     report.say("resume", told, file=memory.name, answers=answers, volumes=looks, runs=memory.runs)
     return memory
 
@@ -61,8 +60,8 @@ def begin(options: Options, words: Sequence[str], report: Report) -> Memory | No
 def end(memory: Memory | None, report: Report, ended: bool = False) -> None:
     """Says what was taken over, and of a run that was told to end how it is gone on with."""
     if memory and ended:
-        report.say("kept", f"{memory.name} keeps what was answered until then: the same words go on with it", file=memory.name)
+        report.say("kept", f"{memory.name} keeps the answers so far. To continue, repeat the command", file=memory.name)
     if memory and memory.runs:
         answers, looks = memory.taken
-        report.say("taken over", f"taken over from {memory.name}: {counted(answers, 'answer')} of reraid, and what was found in "
-                   f"{counted(looks, 'volume')}", file=memory.name, answers=answers, volumes=looks)
+        told = f"reused from {memory.name}: {counted(answers, 'answer')} of reraid and {counted(looks, 'checked volume')}"
+        report.say("taken over", told, file=memory.name, answers=answers, volumes=looks)

@@ -18,6 +18,17 @@ def counted(number: int, noun: str) -> str:
     return f"{number} {noun}" + ("" if number == 1 else "s")
 
 
+def size_said(count: int) -> str:
+    """Return so many bytes as people read them."""
+    unit, name = (MIB, "MiB") if count >= MIB else (KIB, "KiB")
+    return f"{count / unit:.1f} {name}" if count >= KIB else counted(count, "byte")
+
+
+def sectors_said(count: int) -> str:
+    """Return so many sectors in KiB if that is a whole number, and in bytes otherwise."""
+    return f"{count // 2} KiB" if count % 2 == 0 else f"{count * SECTOR} bytes"
+
+
 def listed(numbers: Iterable[int]) -> str:
     """Numbers as a LIST of the words: rising, each once."""
     return ",".join(str(number) for number in sorted(set(numbers)))

@@ -1,4 +1,4 @@
-"""What the words of reraid may be, as docs/FORMATS.md has it, and other names under which people know them."""
+"""What the words of reraid may be, as docs/COMMANDS.md has it, and other names under which people know them."""
 
 import re
 
@@ -17,7 +17,7 @@ PATTERNS = ("plain", "la", "ra", "ls", "rs", "parity-first", "parity-last", "n-r
 SYNDROMES = ("none", "after-q", "by-data", "by-slot")
 # Of RAID 10, in the order of a list.
 LAYOUTS = tuple(f"{kind}{copies}" for kind in ("near", "far", "offset") for copies in (2, 3, 4))
-KINDS = ("gpt", "ntfs", "xfs", "btrfs", "lvm", "ext", "extinode", "xfs5", "btrfstree")
+KINDS = ("gpt", "ntfs", "xfs", "btrfs", "lvm", "ext", "extinode", "xfs5", "btrfstree", "mft")
 NAMES = {"levels": ("0", "5", "6"), "patterns": PATTERNS, "syndromes": SYNDROMES, "layouts": LAYOUTS, "kinds": KINDS, "mode": ("common", "each"),
          "logical": ("512", "4096"), "form": ("text", "json", "data", "lost"), "marks": ("none", "xfs")}
 NUMBERS = ("members", "delays", "chunks", "offsets", "origins")

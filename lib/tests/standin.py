@@ -1,5 +1,6 @@
 """What stands for `reraid` and the checkers in a test: it answers words with stated texts."""
 
+import os
 import tempfile
 import unittest
 from collections.abc import Callable, Sequence
@@ -88,6 +89,16 @@ class InFolder(unittest.TestCase):
         with open(path, "wb") as file:
             file.write(data.encode() if isinstance(data, str) else data)
         return path
+
+
+class Here(InFolder):
+    """A test that runs in a folder of its own."""
+
+    def setUp(self) -> None:
+        super().setUp()
+        before = os.getcwd()
+        os.chdir(self.folder)
+        self.addCleanup(os.chdir, before)
 
 
 PLAN = """reraid-plan 1

@@ -124,7 +124,7 @@ class Plans(unittest.TestCase):
         self.assertEqual((plan.version, plan.lengths, plan.end, plan.numbers("origins")), (1, (100000,) * 3, 100000, [0, 2048]))
         self.assertEqual([(group.kind, group.place, len(group.marks), group.images()) for group in plan.groups],
                          [("xfs", 0, 3, {0, 1}), ("ext", 1, 1, {2})])
-        self.assertEqual([group.name() for group in plan.groups], ["group 0 (xfs, 3 marks)", "group 1 (ext, 1 mark)"])
+        self.assertEqual([group.name() for group in plan.groups], ["landmark group 0 (xfs, 3 landmarks)", "landmark group 1 (ext, 1 landmark)"])
 
     def test_bounds_of_a_group(self) -> None:
         """They make the text one of version 3, with a line for the mode; a plan without any is written as before."""
@@ -291,7 +291,7 @@ class Surveyed(unittest.TestCase):
 
     def test_refused(self) -> None:
         surveys = Surveys(Standin(("reraid survey", put("", 10, "reraid: image read fault\n"))), ["a"])
-        with self.assertRaisesRegex(Refused, r"^reraid: image read fault \(copy it with ddrescue, whose map says what is lost\)$"):
+        with self.assertRaisesRegex(Refused, r"^reraid: image read fault \(copy it with ddrescue: its mapfile lists what is unreadable\)$"):
             surveys.plan(self.request)
         surveys = Surveys(Standin(("reraid survey", put("", 14))), ["a"])
         with self.assertRaisesRegex(Refused, "^reraid survey ended with status 14$"):
@@ -320,12 +320,12 @@ class Programs(unittest.TestCase):
     def test_listing(self) -> None:
         program, standin = self.listed(10, {0: put("3 5:a\n4 5:b\nnext 10 of 10\n")})
         listing = program.listing(read_plan(PLAN))
-        self.assertEqual((len(listing.sets), listing.total, listing.whole, listing.line()), (2, 10, True, "2 sets of 10"))
+        self.assertEqual((len(listing.sets), listing.total, listing.whole, listing.line()), (2, 10, True, "2 of 10 layouts pass"))
         self.assertIn(f"size={MOST_LINES}", standin.asked[1][0])
 
     def test_listing_of_nothing(self) -> None:
         program, standin = self.listed(0, {})
-        self.assertEqual(program.listing(read_plan(PLAN)).line(), "0 sets of 0")
+        self.assertEqual(program.listing(read_plan(PLAN)).line(), "0 of 0 layouts pass")
         self.assertEqual(standin.count("reraid list"), 1)
 
     def test_listing_by_spans(self) -> None:
@@ -339,7 +339,7 @@ class Programs(unittest.TestCase):
     def test_listing_that_was_late_or_full(self) -> None:
         program, _ = self.listed(10, {0: put("3 5:a\n", None)})
         listing = program.listing(read_plan(PLAN))
-        self.assertEqual((listing.whole, listing.note), (False, "its time of 5 s was up before all were looked at"))
+        self.assertEqual((listing.whole, listing.note), (False, "timed out after 5 s, before all were tested"))
         full = "".join(f"{k} 5:a\n" for k in range(MOST_LINES))
         program, _ = self.listed(MOST_LINES + 5, {0: put(full + f"next {MOST_LINES} of {MOST_LINES + 5}\n")})
         self.assertEqual(program.listing(read_plan(PLAN)).note, f"more than {MOST_LINES} pass")

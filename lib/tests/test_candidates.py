@@ -12,7 +12,7 @@ from unittest import mock
 from reraid_try.calls.commands import Answer
 from reraid_try.calls.formats import Checked, Held
 from reraid_try.calls.program import Copied, Program
-from reraid_try.calls.sets import NEAR_2, Copying, Word, read_word
+from reraid_try.calls.sets import NEAR_2, Word, read_word
 from reraid_try.calls.surveys import Request
 from reraid_try.checks import damage, kin, rows
 from reraid_try.checks.candidates import Candidate, Inside, left_most
@@ -140,7 +140,7 @@ class OfCandidates(unittest.TestCase):
 
     def test_one_sign_less_then(self) -> None:
         self.assertEqual([candidate(verdict=whole(longest=size), left_most=True).score for size in (1 << 20, 50)], [Score.CHECKED, Score.KNOWN])
-        self.assertEqual(candidate(verdict=whole(), left_most=True).doubts, ["a group with most of the marks was left out"])
+        self.assertEqual(candidate(verdict=whole(), left_most=True).doubts, ["a landmark group with most landmarks was left out"])
         self.assertEqual(candidate(verdict=whole(False), left_most=True).score, Score.NOTHING)
 
     def test_files_that_tell_the_order_of_chunks_keep_one_sign(self) -> None:
@@ -150,7 +150,7 @@ class OfCandidates(unittest.TestCase):
         self.assertEqual((kept.score, kept.doubts), (Score.CHECKED, []))
         verdict.files.long.joined = 9
         lost = candidate(verdict=verdict, left_most=True)
-        self.assertEqual((lost.score, lost.doubts), (Score.KNOWN, ["a group with most of the marks was left out"]))
+        self.assertEqual((lost.score, lost.doubts), (Score.KNOWN, ["a landmark group with most landmarks was left out"]))
 
     def test_no_sign_against_marks_without_a_whole_file(self) -> None:
         """A checker that reads little of a file system may be content with a wrong order; marks that do not fit and files that are broken are not."""
@@ -161,7 +161,7 @@ class OfCandidates(unittest.TestCase):
             self.assertEqual(candidate(verdict=broken, groups=(held,)).score, score)
         broken.files.found = 1
         self.assertEqual(candidate(verdict=broken, groups=(Held("xfs", 0, 12, 6),)).doubts,
-                         ["some marks speak against it, and no file that was found is whole"])
+                         ["some landmarks contradict it, and no file that was found is intact"])
         self.assertEqual(candidate(verdict=whole(), groups=(Held("xfs", 0, 12, 6),)).score, Score.WHOLE)
 
     def test_longer_images_at_level_0(self) -> None:
@@ -195,7 +195,7 @@ class OfCandidates(unittest.TestCase):
 
     def test_alike_said(self) -> None:
         self.assertEqual(candidate().alike_said, "")
-        self.assertEqual(candidate(alike=["a", "b", "c", "d", "e"]).alike_said, "the same volume, so not told apart: a b c and 2 more")
+        self.assertEqual(candidate(alike=["a", "b", "c", "d", "e"]).alike_said, "same volume, cannot be told apart: a b c and 2 more")
 
 
 class Kin(unittest.TestCase):
@@ -274,13 +274,14 @@ class Kin(unittest.TestCase):
         self.assertEqual(self.signs("6:ls:after-q:128:2048:0,1,-,2", "6:ls:after-q:128:2048:0,1,-,-", "6:ls:after-q:128:2048:0,1,3,-"), ["+", "+"])
         doubted = candidate("5:rs:none:128:2048:0,1,2", Verdict([Finding("", "xfs", True, "said", (Piece(0, 1000),))], length=1000))
         kin.in_order([doubted, candidate(SET, whole())], self.images)
-        self.assertEqual((doubted.score, doubted.doubts), (Score.KNOWN, ["another set of these images, which contradicts it, has long whole files"]))
+        self.assertEqual((doubted.score, doubted.doubts), (Score.KNOWN, ["another layout of these images, which contradicts it, has long intact "
+                                                                         "files"]))
 
     def test_contradicted_by_one_with_whole_files(self) -> None:
         """Of two sets with one sign, that in which files were found and none is whole has none beside one with a whole file."""
         broken = candidate(SET, self.found(3, 0))
         kin.in_order([broken, candidate("5:la*16:none:128:2048:0,1,2", self.found(3, 1))], self.images)
-        self.assertEqual(broken.doubts, ["another set of these images, which contradicts it, has whole files, and of those in this one none is"])
+        self.assertEqual(broken.doubts, ["another layout of these images, which contradicts it, has intact files, and this one has none"])
 
     def test_contradicted_by_one_with_as_much(self) -> None:
         """Of two sets with one sign that has none beside which the other has as many whole files and as many fits, so that neither has one where they
@@ -298,7 +299,7 @@ class Kin(unittest.TestCase):
                 self.assertEqual(tuple(it.score.sign for it in some), signs)
         alike = [candidate(text, self.found()) for text in (SET, right)]
         kin.in_order(alike, self.images)
-        why = "another set of these images, which contradicts it, has as much for itself: at most one of them is right"
+        why = "another layout of these images, which contradicts it, is supported as well: at most one of them is right"
         self.assertEqual([it.doubts for it in alike], [[why], [why]])
 
     def test_rows_of_nothing_before_the_volume(self) -> None:
@@ -321,19 +322,22 @@ class Kin(unittest.TestCase):
                 self.assertEqual(tuple(it.score.sign for it in some), signs)
         some = [candidate(later, found(0)), candidate(earlier, found(8 * row))]
         kin.in_order(some, self.images)
-        self.assertEqual(some[1].doubts, ["what is found in it begins behind its first 8 rows of chunks, where the volume of another set begins"])
+        self.assertEqual(some[1].doubts, ["what is found in it begins after its first 8 stripes, at the start of the volume of another layout"])
         self.assertEqual((Verdict().begins, found(512).begins, found(512, True).begins), (None, 512, 0))
 
     def test_contradicted_by_parity(self) -> None:
-        """Of two sets with long whole files that has no sign with which parity breaks in more than a fourth of the 1,000 filled rows more."""
-        for unsound, score in ((None, Score.WHOLE), (260, Score.WHOLE), (261, Score.KNOWN)):
+        """Of two sets with long whole files that has no rating with which parity breaks in more than a fourth of the 1,000 filled rows more. If it
+        does not, nothing tells them apart, and neither has the highest rating."""
+        for unsound, scores in ((None, (Score.CHECKED, Score.CHECKED)), (260, (Score.CHECKED, Score.CHECKED)), (261, (Score.WHOLE, Score.KNOWN))):
             good, other = candidate(SET, whole(), unsound=10), candidate("5:rs:none:128:2048:0,1,2", whole(), unsound=unsound)
-            self.assertEqual(kin.in_order([other, good], self.images)[0].score, Score.WHOLE)
-            self.assertEqual((good.score, other.score, bool(other.doubts)), (Score.WHOLE, score, unsound == 261))
+            for _ in range(2):
+                kin.in_order([other, good], self.images)
+                self.assertEqual((good.score, other.score), scores)
+        self.assertEqual((bool(good.doubts), bool(other.doubts)), (False, True))
 
     def test_text(self) -> None:
-        self.assertEqual(kin.text(candidate(same=3)), "the same volume as class 3")
-        self.assertEqual(kin.text(candidate(inside=Inside(3, 7))), "the volume of class 3 without its first 7 rows of chunks")
+        self.assertEqual(kin.text(candidate(same=3)), "the same volume as candidate 3")
+        self.assertEqual(kin.text(candidate(inside=Inside(3, 7))), "the volume of candidate 3 without its first 7 stripes")
         self.assertEqual(kin.text(candidate()), "")
 
 
@@ -346,7 +350,7 @@ class Damaged(unittest.TestCase):
         good = candidate(six, whole(), unsound=7)
         self.assertEqual([it.unsound for it in damage.doubted([*some, good], False)], [7])
         self.assertEqual(damage.doubted([*some, good], True), [])
-        self.assertEqual(damage.doubted([candidate(SET, whole(), unsound=7)], False), [])
+        self.assertEqual([it.unsound for it in damage.doubted([candidate(SET, whole(), unsound=7)], False)], [7])
         self.assertEqual(len(damage.doubted([candidate(unsound=5)] * 9, False)), 3)
 
     def test_blamed(self) -> None:
@@ -375,7 +379,7 @@ class Damaged(unittest.TestCase):
         lesser = damage.lesser(it, frozenset({2}))
         lesser.verdict, lesser.unsound = whole(), 0
         kin.in_order([it, lesser], Known.images)
-        self.assertEqual(it.doubts, ["7 unsound rows, and none without image 2, which is old or damaged there"])
+        self.assertEqual(it.doubts, ["7 inconsistent rows, and none without image 2, which is old, damaged or from another array there"])
 
     def test_no_sign_beside_one_with_more_whole_files(self) -> None:
         """A set with unsound rows has no sign where more files are whole without an image, whether parity tells then or not."""
@@ -392,7 +396,7 @@ class Damaged(unittest.TestCase):
         lesser.verdict = whole()
         lesser.verdict.files = dataclasses.replace(lesser.verdict.files, whole=it.found.files.whole + 1, found=it.found.files.found + 1)
         kin.in_order([it, lesser], Known.images)
-        self.assertEqual(it.doubts, ["7 unsound rows, and fewer files are whole than without image 2"])
+        self.assertEqual(it.doubts, ["7 inconsistent rows, and fewer files are intact than without image 2"])
 
 
 class OfRows(unittest.TestCase):
@@ -409,7 +413,7 @@ class OfRows(unittest.TestCase):
         near = Near(SET, plan_of(XFS))
         self.assertTrue(found.ask(near))
         self.assertEqual((near.told.unsound, found.bounds(near)), (3, Bounds(7, 999)))
-        self.assertEqual(near.line(Bounds(7, 999)), f"  {SET}: 3 unsound rows of 1000, first 7 and last 999; no landmarks")
+        self.assertEqual(near.line(Bounds(7, 999)), f"  {SET}: 3 of 1000 rows inconsistent, first 7 and last 999; no landmarks")
         near.told = dataclasses.replace(near.told, seconds=rows.SLOW)
         self.assertEqual(found.bounds(near), Bounds())
         self.assertFalse(Rows(hunt_of(("reraid check", Answer(None)))).ask(near))
@@ -417,26 +421,28 @@ class OfRows(unittest.TestCase):
 
     def test_in_words(self) -> None:
         told = Checked(3, 1000)
-        self.assertEqual(rows.rows_in_words(Checked(0, 1000), Bounds()), "parity holds in all 1000 rows")
-        self.assertEqual(rows.rows_in_words(told, Bounds()), "3 of 1000 rows unsound")
-        self.assertEqual(rows.rows_in_words(told, Bounds(7, 999)), "parity holds in rows 0 to 6; 3 of 1000 rows unsound, all from row 7 on")
-        self.assertEqual(rows.rows_in_words(told, Bounds(0, 12)), "3 of 1000 rows unsound, all in rows 0 to 12")
+        self.assertEqual(rows.rows_in_words(Checked(0, 1000), Bounds()), "parity is consistent in all 1000 rows")
+        self.assertEqual(rows.rows_in_words(told, Bounds()), "3 of 1000 rows inconsistent")
+        self.assertEqual(rows.rows_in_words(told, Bounds(7, 999)), "parity is consistent in rows 0 to 6; 3 of 1000 rows inconsistent, all from row "
+                                                                   "7 on")
+        self.assertEqual(rows.rows_in_words(told, Bounds(0, 12)), "3 of 1000 rows inconsistent, all in rows 0 to 12")
         self.assertEqual([Bounds(0, 12).text(), Bounds(7).text(), Bounds(None, 7).text()], [", first 0 and last 12", "", ""])
 
     def test_whole(self) -> None:
         found = Rows(hunt_of(self.unsound()))
-        self.assertEqual(found.whole(candidate()), "parity holds in all 1000 rows")
-        self.assertEqual(found.whole(candidate("5:ls:none:8:0:0,1,-")), "parity tells nothing with 1 disk missing")
-        self.assertEqual(found.whole(candidate("0:plain:none:8:0:0,1")), "parity tells nothing at level 0")
+        self.assertEqual(found.whole(candidate()), "parity is consistent in all 1000 rows")
+        self.assertEqual(found.whole(candidate("5:ls:none:8:0:0,1,-")), "no parity is left to test with 1 empty slot")
+        self.assertEqual(found.whole(candidate("0:plain:none:8:0:0,1")), "RAID 0 has no parity to test")
         self.assertEqual(found.whole(candidate("near2:8:0:0,1")), "")
         left_out = candidate("5:ls:none:8:0:0,1,-", whole=candidate(unsound=5))
-        self.assertEqual(found.whole(left_out), "with what is left out for bad rows 5 rows are unsound in what was tested")
+        self.assertEqual(found.whole(left_out), "with what is left out for bad rows, 5 rows tested inconsistent")
 
     def test_old_image(self) -> None:
         hunt = hunt_of(self.unsound(600, 601, 700))
         found = Rows(hunt).old(candidate("6:ls:by-data:128:2048:0,-,1,2"))
         self.assertEqual([it.text(["a", "b", "c", "d.img"]) for it in found],
-                         ["d.img is old or damaged from row 600 on: as slot 1 parity holds with it in all rows but 3 of 1000"])
+                         ["d.img is old or damaged from row 600 on, or from another array. In slot 1, parity is consistent with it in all but 3 of "
+                          "1000 rows"])
         asked = cast(OfPlan, hunt).standin.asked[0][0]
         self.assertIn("set=6:ls:by-data:128:2048:0,3,1,2", asked)
         self.assertEqual(Rows(hunt).old(candidate("6:ls:by-data:128:2048:0,3,1,2")), [])
@@ -451,7 +457,7 @@ class OfRows(unittest.TestCase):
             images = tuple(Image(f"i{k}", k, 8000, last=7000 if k == 3 else last) for k in range(4))
             setattr(hunt, "evidence", types.SimpleNamespace(images=images, filled=1000, window=8000, end=8000))
             found = Rows(hunt).old(candidate("6:ls:by-data:128:2048:0,-,1,2"))
-            self.assertEqual([it.text("abcd").endswith("of 1000; perhaps it was being rebuilt, up to there") for it in found], [end])
+            self.assertEqual([it.text("abcd").endswith("of 1000 rows; perhaps it was being rebuilt, up to there") for it in found], [end])
         self.assertNotIn("rebuilt", rows.Old(3, 1, Checked(3, 1000), Bounds(0, 900), True).text("abcd"))
 
     def test_who_is_bad(self) -> None:
@@ -481,8 +487,8 @@ class OfRows(unittest.TestCase):
         turned = Rows(hunt_of(answer(1280 * 4))).turned(near)
         assert turned
         self.assertEqual(turned.row, 1280 * 4)
-        self.assertEqual(turned.text(), "4 marks fit before row 5120, and from there on 4 do not, as where a reshape stopped, or where marks of an "
-                         "older array or file system stand behind that row")
+        self.assertEqual(turned.text(), "4 landmarks match before row 5120, and 4 from there on do not. A reshape may have stopped there, or "
+                         "landmarks of an older array or file system follow")
         few = Near(near.word, plan, Checked(0, 9, (Held("xfs", 0, 6, 2),)))
         self.assertIsNone(Rows(hunt_of(answer(1280 * 6))).turned(few))
 
@@ -541,10 +547,10 @@ class Tested(InFolder):
     def test_read(self) -> None:
         check = ("reraid check", put("unsound 0 of 1\ngroup 0 xfs origin 8 fits 3 misfits 0\npass\n"))
         it = self.over(("reraid write", Answer(10))).read(candidate(hunt=hunt_of(check)))
-        self.assertEqual((it.found.text(), it.score), ("nothing known; no such files; its volume could not be written", Score.NOTHING))
+        self.assertEqual((it.found.text(), it.score), ("nothing recognized; no known files; its volume could not be written", Score.NOTHING))
         with mock.patch("os.truncate", side_effect=OSError(28, "No space left on device")):
             it = self.over(("reraid write", Answer(0))).read(candidate(hunt=hunt_of(check)))
-        self.assertEqual(it.found.notes, ["its volume could not be looked at: No space left on device"])
+        self.assertEqual(it.found.notes, ["its volume could not be read: No space left on device"])
 
     def test_how_much_is_lost(self) -> None:
         def said(text: str, *answers: tuple[str, object], maps: bool = True, mounted: bool = False) -> list[str]:
@@ -555,7 +561,7 @@ class Tested(InFolder):
         self.assertEqual(said(SET, ("reraid salvage", lost)), ["8 of 1000 sectors (less than 1%) lost by the maps"])
         self.assertEqual(said(SET, ("reraid salvage", put("good 1000 of 1000\n"))), ["nothing lost by the maps"])
         self.assertEqual(said(SET, ("reraid salvage", Answer(9))), ["how much the maps leave lost is not known"])
-        self.assertEqual(said("near2:8:0:0,1"), ["its maps are not heeded"])
+        self.assertEqual(said("near2:8:0:0,1"), ["its maps are ignored"])
         self.assertEqual(said("near2:8:0:0,1", mounted=True), ["how much its maps leave lost is not known"])
 
     def test_doubtful_ones_are_put_off(self) -> None:
@@ -568,7 +574,7 @@ class Tested(InFolder):
         for it in some:
             it.trial = dataclasses.replace(it.trial, request=BASE.having(misfits=8))
         self.assertEqual((tests.without_doubtful(some), tests.put_off), (some[:1], some[1:]))
-        self.assertIn("1 of 2 sets are put off", self.report.text)
+        self.assertIn("1 of 2 layouts deferred", self.report.text)
         # Where all are put off nothing is tested.
         tests = self.over()
         self.assertEqual((tests.test(some[1:]), tests.put_off), ([], some[1:]))
@@ -635,7 +641,7 @@ class Tested(InFolder):
             return put(f"unsound {2 if '-,1,2' in answered[2] else 5 if '0,-,2' in answered[2] else 9} of 9\nfail\n")
         it = candidate("6:ls:by-data:8:0:0,1,2,3", hunt=hunt_of(("reraid check", told)), unsound=9)
         self.assertEqual(self.over().left_out(it), [frozenset({0, 1})])
-        self.assertIn("9 rows are unsound, 7 by image 0, 4 by image 1", self.report.text)
+        self.assertIn("9 rows inconsistent, 7 because of image 0, 4 because of image 1", self.report.text)
         self.assertEqual(self.over().left_out(candidate(unsound=9)), [frozenset({image}) for image in range(3)])
 
     def test_sound_without_an_image(self) -> None:
@@ -677,7 +683,7 @@ class Tested(InFolder):
         tests = self.over()
         for verdict in (whole(), whole(), whole(None, 0)):
             tests.tell(candidate(verdict=verdict))
-        self.assertEqual(self.report.lines, [f"  {SET}: xfs: said; 1 of 1 files whole"])
+        self.assertEqual(self.report.lines, [f"  {SET}: xfs: said; 1 of 1 files intact"])
 
 
 class Printed(unittest.TestCase):
@@ -686,79 +692,54 @@ class Printed(unittest.TestCase):
     def test_in_words(self) -> None:
         names = [image.name for image in self.images]
         self.assertEqual(words.in_words(read_word("5:ls:none:128:2048:2,-,1"), names),
-                         "RAID 5 of 3 disks, left-symmetric, chunks of 64 KiB, data from sector 2048; slots: c.img - b.img; in no slot: a.img d.img; "
-                         "missing: slot 1 of 0 to 2")
+                         ["RAID 5 of 3 disks, left-symmetric, chunks of 64 KiB", "disk order: c.img (missing) b.img", "missing: slot 1 of 0 to 2",
+                          "data offset: 2048 sectors", "unused images: a.img d.img"])
         self.assertEqual(words.in_words(read_word("6:ls-6:by-data:1:0:0,1,2,3"), names),
-                         "RAID 6 of 4 disks, left-symmetric-6 (Q on the last slot), Q by the number of the data, chunks of 512 bytes, "
-                         "data from sector 0; slots: a.img b.img c.img d.img; in no slot: none; missing: none")
+                         ["RAID 6 of 4 disks, left-symmetric-6 (Q on the last slot), Q coefficients by data number, chunks of 512 bytes",
+                          "disk order: a.img b.img c.img d.img", "missing: none", "data offset: 0 sectors", "unused images: none"])
         self.assertEqual(words.layout(read_word("5:la*16:none:128:0:0,1,2,3")),
-                         "RAID 5 of 4 disks, left-asymmetric, parity stays for 16 rows (delayed parity, as of Smart Array controllers)")
+                         "RAID 5 of 4 disks, left-asymmetric, delayed parity: it moves after 16 rows, as with Smart Array controllers")
         self.assertEqual(words.layout(read_word("6:ls-6*2:after-q:128:0:0,1,2,3")), "RAID 6 of 4 disks, left-symmetric-6 (Q on the last slot), "
-                         "parity stays for 2 rows (delayed parity, as of Smart Array controllers)")
+                         "delayed parity: it moves after 2 rows, as with Smart Array controllers")
         self.assertEqual(words.in_words(read_word("0:plain:none:8:7+9:1,0"), ["u/a", "v/a"]),
-                         "RAID 0 of 2 disks, chunks of 4 KiB, data from sector 7 of u/a, 9 of v/a; slots: v/a u/a; in no slot: none; missing: none")
+                         ["RAID 0 of 2 disks, chunks of 4 KiB", "disk order: v/a u/a",
+                          "missing: none, or only copies (a RAID 10 with one copy left of each disk is such a RAID 0)",
+                          "data offset in sectors: 7 of u/a, 9 of v/a", "unused images: none"])
 
     def test_which_of_two_copies_cannot_be_known(self) -> None:
         said = words.in_words(read_word("near2:128:2048:0,1,-,2"), [image.name for image in self.images[:3]])
-        self.assertEqual(said, "RAID 10 (near=2) of 4 disks, chunks of 64 KiB, data from sector 2048; slots: a.img=b.img -=c.img "
-                         "(which of two copies is the first cannot be known); in no slot: none; missing: one of slot 2 and slot 3 "
-                         "(one of two copies, which cannot be told)")
+        self.assertEqual(said, ["RAID 10 (near=2) of 4 disks, chunks of 64 KiB",
+                                "disk order: a.img=b.img (missing)=c.img (which of two copies is the first cannot be known)",
+                                "missing: one of slot 2 and slot 3 (one of two copies; which one is unknown)", "data offset: 2048 sectors",
+                                "unused images: none"])
         self.assertIn("missing: slot 1 of 0 to 2", words.missing(read_word("near2:128:2048:0,-,2")))
 
     def test_more_copies_and_other_layouts(self) -> None:
         names = [image.name for image in self.images]
         said = words.in_words(read_word("near3:128:2048:0,-,1,2,-,-"), names[:3])
-        self.assertTrue(said.startswith("RAID 10 (near=3) of 6 disks, "))
-        self.assertIn("slots: a.img=-=b.img c.img=-=- (which of three copies is the first cannot be known)", said)
-        self.assertIn("missing: one of slot 0, slot 1 and slot 2 (one of three copies, which cannot be told), two of slot 3, slot 4 and slot 5 "
-                      "(two of three copies, which cannot be told)", said)
+        self.assertTrue(said[0].startswith("RAID 10 (near=3) of 6 disks, "))
+        gone = "(missing)"
+        self.assertEqual(said[1], f"disk order: a.img={gone}=b.img c.img={gone}={gone} (which of three copies is the first cannot be known)")
+        self.assertEqual(said[2], "missing: one of slot 0, slot 1 and slot 2 (one of three copies; which one is unknown), "
+                                  "two of slot 3, slot 4 and slot 5 (two of three copies; which one is unknown)")
         # Of six slots with four copies of each chunk two hold the same each time, and both of such two may be lost.
         self.assertEqual(words.missing(read_word("near4:8:0:-,0,-,-,1,2")),
-                         "missing: one of slot 0 and slot 1 (one of two copies, which cannot be told), slot 2 and slot 3")
+                         "missing: one of slot 0 and slot 1 (one of two copies; which one is unknown), slot 2 and slot 3")
         for layout, kind in (("far2", "far=2"), ("offset3", "offset=3")):
             said = words.in_words(read_word(f"{layout}:128:2048:0,1,-,2"), names[:3])
-            self.assertTrue(said.startswith(f"RAID 10 ({kind}) of 4 disks, "))
-            self.assertIn("slots: a.img b.img - c.img; in no slot: none; missing: slot 2 of 0 to 3", said)
+            self.assertTrue(said[0].startswith(f"RAID 10 ({kind}) of 4 disks, "))
+            wanted = "disk order: a.img b.img (missing) c.img", "missing: slot 2 of 0 to 3", "unused images: none"
+            self.assertEqual((*said[1:3], said[4]), wanted)
 
     def test_left_out(self) -> None:
         said = words.in_words(read_word("5:ls:none:8:0:0,-,1"), ["a", "b", "c", "d"], read_word("5:ls:none:8:0:0,3,1"))
-        self.assertIn("in no slot: c; left out for bad rows: d (slot 1); missing: slot 1", said)
+        self.assertEqual(said[2:], ["missing: slot 1 of 0 to 2", "data offset: 0 sectors", "unused images: c; left out for bad rows: d (slot 1)"])
 
     def test_twins(self) -> None:
         images = [*self.images[:2], Image("c", 2, 9, like=0), Image("d", 3, 9)]
         self.assertEqual(words.twins(read_word("5:ls:none:8:0:0,1,3"), images),
-                         ["c and a.img hold the same: which of them stands there cannot be known"])
+                         ["c and a.img hold the same data: which of them belongs there cannot be known"])
         self.assertEqual(words.twins(read_word("5:ls:none:8:0:1,3,-"), images), [])
-
-    def test_mounts(self) -> None:
-        def lines(*findings: Finding) -> list[str]:
-            return words.mounts(Verdict(list(findings)), "class0/volume", 1000)
-        ext, xfs = Finding("", "ext4", True, "", (Piece(0, 500),)), Finding("", "xfs", True, "", (Piece(500, 500),))
-        self.assertEqual(lines(ext), ["mount -o ro,noload,loop class0/volume /mnt"])
-        self.assertEqual(lines(ext, xfs), ["mount -o ro,noload,loop,sizelimit=500 class0/volume /mnt",
-                                           "mount -o ro,norecovery,loop,offset=500 class0/volume /mnt"])
-        self.assertEqual(lines(Finding("", "LVM2_member", None, "", (Piece(512, 488),))),
-                         ["losetup -r -f --show -o 512 class0/volume", "vgchange -ay"])
-        self.assertEqual(lines(Finding("", "crypto_LUKS", None, "", (Piece(0, 9),))),
-                         ["cryptsetup open --readonly class0/volume class0", "mount -o ro /dev/mapper/class0 /mnt"])
-        self.assertEqual(lines(Finding("", "BitLocker", None, "", (Piece(512, 9),)))[0],
-                         "cryptsetup open --readonly --type bitlk $(losetup -r -f --show -o 512 class0/volume) class0")
-        self.assertEqual(lines(Finding("", "swap", None, "", (Piece(0, 9),)), Finding("", "xfs", True, "", (Piece(0, 9), Piece(20, 9)))), [])
-
-    def test_commands_of_a_volume_that_is_cut(self) -> None:
-        it = candidate(verdict=Verdict([Finding("", "xfs", True, "", (Piece(0, 900),), lacks=100)]))
-        length = read_word(SET).sectors(8000) * SECTOR + 100
-        self.assertEqual(words.commands(4, it, [Image("a b", 0, 8000), Image("c", 1, 8000)]),
-                         [f"reraid-mount {SET} class4 'a b' c", "cp --sparse=always class4/volume class4.img", f"truncate -s {length} class4.img",
-                          "mount -o ro,norecovery,loop class4.img /mnt"])
-
-    def test_commands_of_far_copies(self) -> None:
-        """With the end by which they were found, where that is not the images'."""
-        it = candidate("far2:8:0:0,1", verdict=whole())
-        self.assertEqual(words.commands(4, it, self.images[:2])[0], "reraid-mount far2:8:0:0,1 class4 /x/a.img /x/b.img")
-        it.trial = dataclasses.replace(it.trial, copied=Copied((Copying("far", 2),), 2, end=80))
-        self.assertEqual(words.commands(4, it, self.images[:2])[:2],
-                         ["mkdir class4", "nbdfuse -r class4/volume --command reraid-nbd set=far2:8:0:0,1 end=80 -- /x/a.img /x/b.img &"])
 
     def shown(self, *found: Candidate, as_json: bool = False, images: list[Image] | None = None) -> Told:
         """What is printed of these candidates."""
@@ -769,7 +750,7 @@ class Printed(unittest.TestCase):
     def test_best(self) -> None:
         two, one = candidate(verdict=whole(), number=1), candidate(verdict=whole(longest=50), number=2)
         known = candidate(verdict=whole(None, 0))
-        self.assertEqual(words.best([two, one, known]), [(0, two)])
+        self.assertEqual(words.best([two, one, known]), [(0, two), (1, one)])
         self.assertEqual(words.best([known, one]), [(1, one)])
         self.assertEqual(words.best([known]), [])
         self.assertEqual(words.best([dataclasses.replace(two, same=1)]), [])
@@ -778,18 +759,21 @@ class Printed(unittest.TestCase):
         it = candidate(verdict=whole(), unsound=3, groups=(Held("xfs", 0, 3, 1),), alike=["6:x"], old=("d.img is old or damaged",),
                        rows="parity holds")
         text = self.shown(it, candidate("5:la:none:128:2048:0,1,2", whole(False))).text
-        self.assertIn(f"++  0      {SET}  nothing   3 unsound xfs 3-1  xfs: said; 1 of 1 files whole\n           6:x", text)
-        self.assertIn("    1      5:la:none:128:2048:0,1,2", text)
-        self.assertIn("class 0: RAID 5 of 3 disks", text)
-        self.assertIn("\n  loosened: nothing; parity holds\n  the same volume, so not told apart: 6:x\n  d.img is old or damaged\n"
-                      "  to look into it, as root:\n    reraid-mount", text)
+        self.assertIn(f"++  0   {SET}\n        6:x\n        xfs: said; 1 of 1 files intact\n"
+                      "        relaxed: nothing; landmarks that match: xfs 3-1; 3 inconsistent rows\n", text)
+        self.assertIn("    1   5:la:none:128:2048:0,1,2\n", text)
+        self.assertIn("candidate 0: RAID 5 of 3 disks", text)
+        self.assertIn("\n  relaxed: nothing\n  parity holds\n  same volume, cannot be told apart: 6:x\n  d.img is old or damaged\n"
+                      "  to mount it read-only, as root:\n    reraid-mount", text)
+        self.assertIn("  to undo that:\n    umount /mnt\n    umount candidate0", text)
         self.assertEqual(self.shown().lines[-1], "no candidates")
 
     def test_why_there_is_no_sign(self) -> None:
         little = whole()
         little.length = 100000
-        self.assertIn("no sign: what was found covers 1% of the volume", self.shown(candidate(verdict=little)).text)
-        self.assertIn("one sign less: a group with most of the marks was left out", self.shown(candidate(verdict=whole(), left_most=True)).text)
+        self.assertIn("no rating: what was found covers 1% of the volume", self.shown(candidate(verdict=little)).text)
+        self.assertIn("; rating lowered: a landmark group with most landmarks was left out",
+                      self.shown(candidate(verdict=whole(), left_most=True)).text)
 
     def test_json(self) -> None:
         report = self.shown(candidate(verdict=whole(), inside=None), as_json=True)
@@ -797,12 +781,13 @@ class Printed(unittest.TestCase):
         self.assertEqual([it["event"] for it in events], ["candidate", "end", "words"])
         self.assertEqual({name: events[0][name] for name in ("set", "score", "sign", "clean", "files", "files_whole", "loosened", "doubts")},
                          {"set": SET, "score": 3, "sign": "++", "clean": True, "files": 1, "files_whole": 1, "loosened": [], "doubts": []})
-        self.assertEqual(events[2]["commands"][0], f"reraid-mount {SET} class0 /x/a.img /x/b.img /x/c.img /x/d.img")
+        self.assertEqual(events[2]["commands"][0], f"reraid-mount {SET} candidate0 /x/a.img /x/b.img /x/c.img /x/d.img")
+        self.assertEqual(events[2]["ends"][-1], "umount candidate0")
 
     def test_many(self) -> None:
         many = [candidate(f"5:ls:none:8:{k}:0,1,2", whole(False, k), number=k) for k in range(30)]
         text = self.shown(*many, candidate("5:la:none:8:0:0,1,2", Verdict())).text
-        self.assertIn("6 more: a checker found fault (--json has them all)\n1 more: nothing is known in the volume", text)
+        self.assertIn("6 more: a checker reports errors (--json lists them all)\n1 more: nothing recognized in the volume", text)
         self.assertIn("5:ls:none:8:29:0,1,2", text)
         self.assertNotIn("5:ls:none:8:5:0,1,2", text)
         self.assertEqual(sum(line.startswith("{") for line in self.shown(*many, as_json=True).lines), 31)
@@ -812,17 +797,18 @@ class Printed(unittest.TestCase):
         for it in closed:
             it.found.files = Wholes()
         text = self.shown(*closed).text
-        self.assertIn("encrypted (crypto_LUKS): no checker tells these classes from a wrong one. Try each with its key: class 0, 1\n"
-                      "class 0: RAID 5", text)
-        self.assertIn("    cryptsetup open --readonly class1/volume class1", text)
+        self.assertIn("encrypted (crypto_LUKS): no checker tells these candidates from a wrong one. Try each with its key: candidate 0, "
+                      "1\ncandidate 0: RAID 5", text)
+        self.assertIn("    cryptsetup open --readonly candidate1/volume candidate1 && mount", text)
 
     def test_maps_are_named(self) -> None:
         images = [dataclasses.replace(image, map=Map("m", "", ())) for image in self.images]
         closed = Opened(Container("E01", ("d.E01",)), "/x/opened", (), "opened/d")
-        self.assertIn("call unread is found by parity there, and what is lost cannot", self.shown(candidate(verdict=whole()), images=images).text)
-        self.assertIn("(this shows zeros where the map of a container says unread; reraid salvage",
-                      self.shown(candidate(verdict=whole()), images=[dataclasses.replace(images[0], opened=closed), *images[1:]]).text)
-        self.assertIn("(this shows what an image has where its map says", self.shown(candidate("near2:8:0:0,1", verdict=whole()), images=images).text)
+        self.assertIn("what the mapfiles list as unread is computed from parity if", self.shown(candidate(verdict=whole()), images=images).text)
+        long = Map("m", "", ((0, 512, "-"),) * 500)
+        self.assertIn("(this shows what a container holds in its unread areas: place the mapfile",
+                      self.shown(candidate(verdict=whole()), images=[dataclasses.replace(images[0], opened=closed, map=long), *images[1:]]).text)
+        self.assertIn("is read from another copy if", self.shown(candidate("near2:8:0:0,1", verdict=whole()), images=images).text)
         self.assertNotIn("unread", self.shown(candidate(verdict=whole())).text)
 
 

@@ -152,14 +152,21 @@ class Pages(unittest.TestCase):
 
     def test_nothing(self) -> None:
         said = self.made()
-        self.assertIn("No candidate is told to be good", said)
-        self.assertIn("None: there was no trial", said)
-        self.assertIn("is not recorded where it was found", said)
+        self.assertIn("No candidate was rated", said)
+        self.assertIn("None: there was no search step", said)
+        self.assertIn("There is no record of the toolchain", said)
+
+    def test_no_array(self) -> None:
+        """What the images are in place of an array, with what to type."""
+        said = self.made(("answer", "a mirror", {"kind": "mirror", "said": "this is a mirror", "commands": ["mount -o ro <a> /mnt"]}))
+        self.assertIn("this is a mirror.", said)
+        self.assertIn("mount -o ro <a> /mnt", said)
+        self.assertNotIn("No candidate was rated", said)
 
     def test_proved_only_with_a_kit(self) -> None:
         run = {"began": "now", "words": ["reraid-try"], "kit": "kit-1"}
         said = self.made(("run", "", run))
-        self.assertIn("it is proved that a listing holds exactly the sets that pass", said)
+        self.assertIn("the program reraid lists exactly the layouts that pass", said)
         self.assertIn("proved and built with kit-1", said)
 
     def test_names_are_texts(self) -> None:
@@ -168,25 +175,59 @@ class Pages(unittest.TestCase):
 
     def test_hash(self) -> None:
         first = {"image": 0, "sha256": "ab12", "bytes": 1024, "why": ""}
-        second = {"image": 1, "sha256": "", "bytes": 1024, "why": "the run was ended before"}
+        second = {"image": 1, "sha256": "", "bytes": 1024, "why": "the run was interrupted before"}
         said = self.made(("image", "", image(0)), ("image", "", image(1)), ("hash", "", first), ("hash", "", second))
         self.assertIn("SHA-256 ab12 of 1,024 bytes", said)
-        self.assertIn("SHA-256: the run was ended before", said)
+        self.assertIn("SHA-256: the run was interrupted before", said)
+
+    def test_why_sectors_count_as_unread(self) -> None:
+        """The legend says whether a map says so, or what stands there."""
+        def strip(number: int, inferred: bool) -> tuple[str, str, dict[str, Any]]:
+            return "strip", "", {"image": number, "cell": 1, "filled": [100] * 256, "looks": 0, "unread": [[3, 4]], "inferred": inferred}
+        events = [("image", "", image(number)) for number in range(2)]
+        by_map, by_text = "unread: by the ddrescue mapfile", "inferred: a repeated text is there"
+        cases: list[tuple[list[bool], tuple[bool, bool]]] = [([False], (True, False)), ([True], (False, True)), ([False, True], (True, True)),
+                                                             ([], (False, False))]
+        for strips_there, told in cases:
+            said = self.made(*events, *(strip(number, inferred) for number, inferred in enumerate(strips_there)))
+            self.assertEqual((by_map in said, by_text in said), told)
+
+    def test_no_hash(self) -> None:
+        """That none was taken is said of each image."""
+        self.assertEqual(self.made(("image", "", image(0)), ("image", "", image(1))).count("SHA-256: not computed"), 2)
+
+    def test_a_case(self) -> None:
+        """The case and the examiner, the files of the images with their dates, and the digest of a map."""
+        run = {"began": "now", "words": ["reraid-try"], "case": "2026/<7>", "examiner": "A. B."}
+        files = [{"name": "a.001", "bytes": 1024, "changed": "2026-01-02T03:04:05+00:00"}, {"name": "/dev/sdb", "bytes": 7, "changed": None}]
+        said = self.made(("run", "", run), ("image", "", image(0, map="a.map", map_sha256="cd34")), ("files", "", {"image": 0, "files": files}))
+        for wanted in ("case 2026/<7> examiner A. B.", "file a.001: 1,024 bytes, changed last 2026-01-02T03:04:05+00:00",
+                       "file /dev/sdb: 7 bytes, a block device", "mapfile: a.map, SHA-256 cd34"):
+            self.assertIn(wanted, said)
+        self.assertNotIn("examiner", self.made(("run", "", run | {"case": "", "examiner": ""})))
+
+    def test_files_that_touch_what_is_lost(self) -> None:
+        files = [f"/{number}" for number in range(page.MOST_FILES + 3)]
+        said = self.made(("lost files", "candidate 0: ext4: 9 sectors of it are lost", {"class": 0, "files": files}))
+        self.assertIn("Files that touch lost sectors candidate 0: ext4: 9 sectors of it are lost /0 /1 ", said)
+        self.assertTrue("/499 and 3 more" in said and "/500" not in said)
 
     def test_not_tried(self) -> None:
         self.assertIn("levels 0: left out", self.made(("not tried", "levels 0: left out", {})))
 
     def test_a_candidate(self) -> None:
-        candidate = {"class": 0, "set": "5:ls:none:128:2048:0,1,2", "alike": ["5:rs:none:128:2048:0,2,1"], "loosened": ["half the window"],
-                     "score": 3, "unsound": 7, "fits": ["ext 4"], "found": ["ext4: e2fsck clean"], "note": "", "trial": 2}
-        trial = {"number": 2, "shape": "levels 5, 3 members", "loosened": [], "listed": 1, "total": 9, "note": ""}
+        candidate = {"class": 0, "set": "5:ls:none:128:2048:0,1,2", "alike": ["5:rs:none:128:2048:0,2,1"], "loosened": ["half the test range"],
+                     "score": 3, "unsound": 7, "fits": ["ext 4"], "found": ["ext4: e2fsck reports no errors"], "note": "", "trial": 2}
+        trial = {"number": 2, "shape": "RAID 5 of 3 disks", "loosened": [], "listed": 1, "total": 9, "note": ""}
         words = {"class": 0, "set": candidate["set"], "words": "RAID 5 of 3 disks", "rows": "", "commands": ["reraid-mount S d 0.img"]}
         regions = [{"first": 0, "rows": 10, "tested": 10, "unsound": 3}, {"first": 10, "rows": 5, "tested": 5, "unsound": 0}]
-        said = self.made(("image", "", image(0)), ("trial", "", trial), ("candidate", "", candidate), ("words", "", words),
+        lines = "candidate 0: RAID 5 of 3 disks\n  disk order: a b c\n  to mount it read-only, as root:\n    typed"
+        said = self.made(("image", "", image(0)), ("trial", "", trial), ("candidate", "", candidate), ("words", lines, words),
                          ("parity", "", {"class": 0, "regions": regions}))
-        self.assertNotIn("put off", said)
-        for wanted in ("++ class 0. RAID 5 of 3 disks", "reraid-mount S d 0.img", "7 rows unsound, ext 4", "candidates: class 0",
-                       "5:rs:none:128:2048:0,2,1", "3 of 15 rows that were tested are unsound, in 2 parts"):
+        self.assertNotIn("deferred", said)
+        for wanted in ("++ candidate 0: RAID 5 of 3 disks disk order: a b c To mount it read-only, as root:", "reraid-mount S d 0.img",
+                       "7 rows inconsistent, ext 4", "candidates: 0",
+                       "5:rs:none:128:2048:0,2,1", "3 of 15 tested rows are inconsistent, in 2 parts"):
             self.assertIn(wanted, said)
 
     def test_outcomes(self) -> None:
@@ -197,8 +238,8 @@ class Pages(unittest.TestCase):
         trials[2][2]["total"] = None
         said = self.made(trials[0], ("put off", "", {"sets": 9}), *trials[1:], *found)
         self.assertEqual((said.count("9 of 9"), said.count("None")), (2, 0))
-        self.assertEqual(said.count("put off; no new candidate"), 1)
-        self.assertIn("candidates: class 0 to 2, 4, 6, 7", said)
+        self.assertEqual(said.count("deferred; no new candidate"), 1)
+        self.assertIn("candidates: 0 to 2, 4, 6, 7", said)
 
     def test_relations(self) -> None:
         told = {"step": 10, "rows": [{"first": 0, "last": 40, "zero": [], "tied": [[0, 1]]}, {"first": 50, "last": 90, "zero": [1], "tied": []}],
@@ -208,14 +249,14 @@ class Pages(unittest.TestCase):
             record.add("image", "", image(number, 100))
         record.add("relations", "", told)
         made = Disks(record)
-        for number, wanted in enumerate(("tied in 5 rows, untied with data in 5", "tied in 5 rows, untied with data in 0",
-                                         "tied in 0 rows, untied with data in 10")):
+        for number, wanted in enumerate(("parity matches in 5 rows, data without a match in 5", "parity matches in 5 rows, data without a match in 0",
+                                         "parity matches in 0 rows, data without a match in 10")):
             lane = made.tied(number)
             assert lane
             self.assertEqual(lane.told, wanted)
         text = read(page.page(record))
-        self.assertIn("images 0, 1 stand together in 5 rows", text)
-        self.assertTrue("images 1, 2 stand together in 1 row" in text and "1 rows" not in text)
+        self.assertIn("images 0, 1 match in 5 rows", text)
+        self.assertTrue("images 1, 2 match in 1 row" in text and "1 rows" not in text)
 
 
 if __name__ == "__main__":

@@ -6,6 +6,7 @@ import io
 import lzma
 import os
 import struct
+import subprocess
 import threading
 import unittest
 import zipfile
@@ -14,7 +15,7 @@ from unittest import mock
 
 from reraid_try.calls.commands import Answer, Commands
 from reraid_try.calls.sets import read_word
-from reraid_try.checks import checkers, lvm, systems, volumes, wholes
+from reraid_try.checks import checkers, leftovers, looks, lvm, systems, wholes
 from reraid_try.checks.checkers import Checkers, lacking, seen_length
 from reraid_try.checks.lvm import Piece
 from reraid_try.checks.systems import SYSTEMS, system_of
@@ -22,7 +23,7 @@ from reraid_try.checks.verdicts import Finding, Score, Verdict, covered
 from reraid_try.checks.volumes import Region, Room, Source, Volume
 from reraid_try.checks.wholes import Wholes
 from reraid_try.errors import OutsideError
-from reraid_try.units import ALL, KIB, MIB, SECTOR
+from reraid_try.units import ALL, KIB, MIB, SECTOR, size_said
 from tests.standin import InFolder, Standin, put
 from tests.test_images import ext_super, mbr, superblock
 
@@ -120,6 +121,7 @@ class Lengths(unittest.TestCase):
         self.assertEqual(length("vfat", (11, struct.pack("<H", 512)), (32, little(100000))), 512 * 100000)
         self.assertEqual(length("vfat", (11, struct.pack("<H", 512)), (19, struct.pack("<H", 9000))), 512 * 9000)
         self.assertEqual(length("exfat", (72, struct.pack("<Q", 50)), (108, b"\x09")), 50 * 512)
+        self.assertEqual(length("reiserfs", (65536, little(700)), (65536 + 44, struct.pack("<H", 4096))), 700 * 4096)
         self.assertEqual((length("swap"), length("crypto_LUKS"), SYSTEMS["xfs"].length_of(b"XFSB")), (0, 0, 0))
 
     def test_rows(self) -> None:
@@ -127,10 +129,10 @@ class Lengths(unittest.TestCase):
         self.assertEqual(SYSTEMS["ext4"].command("v", 512), ["e2fsck", "-fn", "v?offset=512"])
         self.assertEqual(SYSTEMS["xfs"].command("v", 512), ["xfs_repair", "-n", "-f", "v"])
         with self.assertRaises(ValueError):
-            SYSTEMS["vfat"].command("v")
-        # A checker may change nothing, and a mount may not write, not even a journal.
+            SYSTEMS["f2fs"].command("v")
+        # A checker may change nothing but a copy of its own, and a mount may not write, not even a journal.
         for it in SYSTEMS.values():
-            self.assertTrue(it.tool is None or it.tool in ("pvck",) or any(word in it.words for word in ("-n", "-fn", "--readonly")))
+            self.assertTrue(it.tool is None or it.tool in ("pvck",) or it.writes or any(word in it.words for word in ("-n", "-fn", "--readonly")))
             self.assertTrue(it.mount is None or it.mount.startswith("ro"))
             self.assertTrue(not it.opened or "--readonly" in it.opened)
         self.assertEqual([kind for kind, it in SYSTEMS.items() if it.mount == "ro,noload"], ["ext3", "ext4"])
@@ -186,14 +188,14 @@ class Verdicts(unittest.TestCase):
 
     def test_no_sign_where_only_files_within_a_chunk_are_whole(self) -> None:
         within = self.verdict(self.found(), files=Wholes(64, 61, 10))
-        self.assertEqual((within.score, within.doubts), (Score.KNOWN, ["only files within one chunk are whole, as in any order of the chunks"]))
+        self.assertEqual((within.score, within.doubts), (Score.KNOWN, ["only files within one chunk are intact, as in any order of the chunks"]))
         for files in (Wholes(64, 61, 11), Wholes(64, 64, 10), Wholes(4, 0, 0)):
             self.assertEqual(self.verdict(self.found(), files=files).score, Score.CHECKED)
 
     def test_no_sign_where_many_files_are_broken(self) -> None:
         """Metadata in the first rows may be right in a wrong volume, where the parity of the rows with files lies elsewhere."""
         broken = self.verdict(self.found(), files=Wholes(8, 0))
-        self.assertEqual((broken.score, broken.doubts), (Score.KNOWN, ["none of 8 files is whole"]))
+        self.assertEqual((broken.score, broken.doubts), (Score.KNOWN, ["none of 8 files is intact"]))
         for kind, files in (("xfs", Wholes(7, 0)), ("xfs", Wholes(8, 1, 20)), ("xfs", Wholes(8, 0, long=Wholes(2, 1, 20))), ("ext3", Wholes(9, 0))):
             self.assertEqual(self.verdict(self.found(kind), files=files).score, Score.CHECKED)
         self.assertEqual(self.verdict(self.found("btrfs"), files=Wholes(9, 0)).score, Score.WHOLE)
@@ -219,14 +221,15 @@ class Verdicts(unittest.TestCase):
         self.assertEqual(covered([], 100), 0)
 
     def test_text(self) -> None:
-        verdict = self.verdict(Finding("at 9", "xfs", True, "xfs_repair clean"), files=Wholes(64, 61, 10, True))
+        verdict = self.verdict(Finding("at 9", "xfs", True, "xfs_repair reports no errors"), files=Wholes(64, 61, 10, True))
         verdict.notes.append("cut")
-        self.assertEqual(verdict.text(), "at 9 xfs: xfs_repair clean; 61 of the first 64 files whole, none longer than a chunk; cut")
-        self.assertEqual(self.verdict().text(), "nothing known; no such files")
+        self.assertEqual(verdict.text(),
+                         "at 9 xfs: xfs_repair reports no errors; 61 of the first 64 files intact, the longest 10 bytes: no longer than a chunk; cut")
+        self.assertEqual(self.verdict().text(), "nothing recognized; no known files")
         self.assertEqual(self.verdict(self.found("btrfs")).text(), "btrfs")
-        self.assertEqual(Wholes(3, 2, 30).text(10, 30), "2 of 3 files whole, none longer than a row of chunks")
-        self.assertEqual(Wholes(3, 2, 31, True, Wholes(2, 1, 5)).text(10, 30), "2 of the first 3 files whole, 1 of 2 that may be long")
-        self.assertEqual(Wholes(3, 0, 0).text(10, 30), "0 of 3 files whole")
+        self.assertEqual(Wholes(3, 2, 30).text(10, 30), "2 of 3 files intact, the longest 30 bytes: no longer than a stripe")
+        self.assertEqual(Wholes(3, 2, 31, True, Wholes(2, 1, 5)).text(10, 30), "2 of the first 3 files intact, 1 of 2 that may be long")
+        self.assertEqual(Wholes(3, 0, 0).text(10, 30), "0 of 3 files intact")
 
     def test_encrypted_and_gain(self) -> None:
         self.assertEqual(len(self.verdict(self.found("crypto_LUKS", None), self.found()).encrypted), 1)
@@ -424,20 +427,20 @@ class Rooms(InFolder):
         self.assertEqual((region.there(3000), region.first, region.length), (600, 1000, 1000))
         self.assertEqual(region.up_to(700), (Piece(1000, 500), Piece(2900, 200)))
 
-    def test_what_a_killed_run_left_is_taken_away(self) -> None:
-        old, kept, new = (f"{self.folder}/{volumes.PREFIX}{name}" for name in ("old", "kept", "new"))
-        for name in (old, kept, new):
-            os.mkdir(name)
-            with open(f"{name}/{volumes.LOCK}", "w", encoding="ascii"):
-                pass
-        lock = volumes.locked(f"{kept}/{volumes.LOCK}", "r")
-        for name in (old, kept):
-            os.utime(name, (1, 1))
-        os.mkdir(f"{self.folder}/other")
-        self.room()
-        self.assertEqual([os.path.exists(name) for name in (old, kept, new, f"{self.folder}/other")], [False, True, True, True])
-        assert lock
-        lock.close()
+    def test_a_room_is_known_by_its_lock_and_to_its_programs(self) -> None:
+        """While a run is there its folder counts as in use, and the programs that it starts have the name of it in their environment."""
+        room = self.room()
+        os.utime(room.base, (1, 1))
+        self.assertEqual(leftovers.left_in(self.folder), [])
+        said = subprocess.run(["printenv", leftovers.VARIABLE], capture_output=True, text=True, check=False).stdout
+        self.assertEqual(said, room.base + "\n")
+        room.close()
+        self.assertEqual((os.path.exists(room.base), leftovers.VARIABLE in os.environ), (False, False))
+
+
+# The first sector of a FAT of 4 MiB.
+FAT = ((b"\xeb\x58\x90mkfs.fat" + struct.pack("<H", 512) + b"\x01\x20\0\x02\0\0" + struct.pack("<H", 8192)).ljust(54, b"\0")
+       + b"FAT16   ".ljust(456, b"\0") + b"\x55\xaa")
 
 
 class Looks(InFolder):
@@ -463,22 +466,32 @@ class Looks(InFolder):
 
     def test_clean_file_system(self) -> None:
         verdict = self.checkers(("xfs_repair", put(""))).look(self.volume((0, self.xfs(4 * MIB))), [0], 4096, 8192)
-        self.assertEqual((verdict.text(), verdict.score), ("xfs: xfs_repair clean; no such files", Score.CHECKED))
+        self.assertEqual((verdict.text(), verdict.score), ("xfs: xfs_repair reports no errors; no known files", Score.CHECKED))
         self.assertEqual(self.standin.count("xfs_repair -n -f"), 1)
 
     def test_fault(self) -> None:
         verdict = self.checkers(("xfs_repair", Answer(1))).look(self.volume((0, self.xfs(4 * MIB))), [], 4096, 8192)
-        self.assertEqual((verdict.findings[0].said, verdict.score), ("xfs_repair status 1", Score.NOTHING))
+        self.assertEqual((verdict.findings[0].said, verdict.score), ("xfs_repair reports errors (status 1)", Score.NOTHING))
         verdict = self.checkers(("xfs_repair", Answer(None))).look(self.volume((0, self.xfs(4 * MIB))), [], 4096, 8192)
         self.assertEqual((verdict.findings[0].said, verdict.score), ("xfs_repair took too long", Score.KNOWN))
 
+    def test_jfs(self) -> None:
+        """Of a JFS that was read wholly, with errors, nothing is told, as it may not have been unmounted: of one that was not, it is no JFS."""
+        volume = self.volume((64, b"JFS1" + bytes(508)))
+        done = "  120096 kilobytes are available for use.\nFilesystem is dirty.\n"
+        for answer, clean, score in ((put(done), True, Score.CHECKED), (Answer(4, done.encode()), None, Score.KNOWN),
+                                     (Answer(4, b"CANNOT CONTINUE.\n"), False, Score.NOTHING), (Answer(8, b""), False, Score.NOTHING)):
+            verdict = self.checkers(("fsck.jfs", answer)).look(volume, [], 4096, 8192)
+            self.assertEqual((verdict.findings[0].kind, verdict.findings[0].clean, verdict.score), ("jfs", clean, score))
+            self.assertEqual(self.standin.asked[-1][0], ["fsck.jfs", "-n", volume.path])
+
     def test_tool_that_is_not_there(self) -> None:
         verdict = self.checkers(there=()).look(self.volume((0, self.xfs(4 * MIB))), [], 4096, 8192)
-        self.assertEqual((verdict.findings[0].said, verdict.score), ("no xfs_repair here", Score.KNOWN))
+        self.assertEqual((verdict.findings[0].said, verdict.score), ("xfs_repair is not installed", Score.KNOWN))
 
     def test_what_bcache_caches(self) -> None:
         """A file system behind a superblock of bcache is looked at, and is what the volume holds; behind one of a cache there is none."""
-        for version, found in ((4, ["bcache", "at 48 xfs: xfs_repair clean"]), (3, ["bcache: nothing known in it"])):
+        for version, found in ((4, ["bcache", "at 48 xfs: xfs_repair reports no errors"]), (3, ["bcache: nothing recognized in it"])):
             volume = self.volume((8, superblock(version, 48)), (48, self.xfs(4 * MIB - 48 * SECTOR)))
             verdict = self.checkers(("xfs_repair", put(""))).look(volume, [], 4096, 8192)
             self.assertEqual([finding.text() for finding in verdict.findings], found)
@@ -488,31 +501,49 @@ class Looks(InFolder):
         table = mbr((0, 0x83, 2048, 4096))
         found = self.checkers(("xfs_repair", put("")), ("e2fsck", put("")))
         verdict = found.look(self.volume((0, table), (2048, self.xfs(2 * MIB)), (7000, bytes(1024) + ext_super())), [7000, 7000, 99999], 4096, 8192)
-        self.assertEqual([finding.text() for finding in verdict.findings], ["MBR", "at 2048 xfs: xfs_repair clean", "at 7000 ext4: e2fsck clean"])
+        self.assertEqual([finding.text() for finding in verdict.findings], ["MBR", "at 2048 xfs: xfs_repair reports no errors", "at 7000 ext4: "
+                                                                                                                                "e2fsck reports no "
+                                                                                                                                "errors"])
         self.assertIn(["e2fsck", "-fn", f"{self.folder}/volume?offset={7000 * SECTOR}"], [words for words, _ in self.standin.asked])
         self.assertTrue(verdict.findings[0].table)
 
     def test_table_alone_is_empty(self) -> None:
         verdict = self.checkers().look(self.volume((0, mbr((0, 0x83, 2048, 4096)))), [], 4096, 8192)
-        self.assertEqual((verdict.text(), verdict.score), ("MBR: nothing known in it; no such files", Score.NOTHING))
+        self.assertEqual((verdict.text(), verdict.score), ("MBR: nothing recognized in it; no known files", Score.NOTHING))
 
     def test_logical_volumes(self) -> None:
         place = 16 + 80
         found = self.checkers(("pvck", put(LVM.replace("stripes = [ \"pv0\", 0 ]", "stripes = [ \"pv0\", 9 ]"))), ("xfs_repair", put("")))
         head = bytes(SECTOR) + b"LABELONE"
         verdict = found.look(self.volume((0, head), (16 + 72, self.xfs(32 * SECTOR))), [], 4096, 8192)
-        self.assertEqual([finding.text() for finding in verdict.findings], ["LVM2_member: pvck clean", "logical volume home: xfs: xfs_repair clean"])
+        self.assertEqual([finding.text() for finding in verdict.findings], ["LVM2_member: pvck reports no errors", "logical volume home: xfs: "
+                                                                                                                   "xfs_repair reports no errors"])
         one = LVM.replace('"pv0", 0 ]', '"pv0", 9 ]').replace("extent_count = 1\n", "extent_count = 64\n").replace("segment2", "nothing2")
         found = self.checkers(("pvck", put(one)), ("xfs_repair", put("")))
         verdict = found.look(self.volume((0, head), (16 + 72, self.xfs(64 * 8 * SECTOR))), [], 4096, 8192)
-        self.assertEqual([finding.text() for finding in verdict.findings], ["LVM2_member: pvck clean", "logical volume home: xfs: xfs_repair clean"])
+        self.assertEqual([finding.text() for finding in verdict.findings], ["LVM2_member: pvck reports no errors", "logical volume home: xfs: "
+                                                                                                                   "xfs_repair reports no errors"])
         self.assertIsNone(verdict.findings[0].clean)
         self.assertEqual(place, 96)
         # The physical volume that is there is the second one of its group.
         second = one.replace("pv0 {", f'pv0 {{\nid = "{"a" * 32}"\npe_start = 99\n}}\npv1 {{\nid = "{"u" * 32}"').replace('"pv0", 9', '"pv1", 9')
         found = self.checkers(("pvck", put(second)), ("xfs_repair", put("")))
         verdict = found.look(self.volume((0, head + bytes(24) + b"u" * 32), (16 + 72, self.xfs(64 * 8 * SECTOR))), [], 4096, 8192)
-        self.assertEqual(verdict.findings[1].text(), "logical volume home: xfs: xfs_repair clean")
+        self.assertEqual(verdict.findings[1].text(), "logical volume home: xfs: xfs_repair reports no errors")
+
+    def test_thin_volumes(self) -> None:
+        """What LVM2 alone reads is named, and files decide: if some go on from each chunk into the next one, also where long ones are broken."""
+        pool = LVM.replace('type = "striped"\nstripe_count = 1\nstripes = [\n"pv0", 10\n]', 'type = "thin"\nthin_pool = "pool"')
+        self.assertEqual((lvm.thin_volumes(pool), lvm.thin_volumes(LVM), lvm.thin_volumes("none")), (("/dev/vg/home",), (), ()))
+        head = bytes(SECTOR) + b"LABELONE"
+        for joined, whole, score in ((2, 61, Score.CHECKED), (1, 61, Score.KNOWN), (2, 31, Score.KNOWN)):
+            with mock.patch.object(wholes, "count", return_value=Wholes(64, whole, 4000, True)), \
+                    mock.patch.object(wholes, "count_long", return_value=Wholes(16, 11, 4000, joined=joined)):
+                verdict = self.checkers(("pvck", put(pool))).look(self.volume((0, head)), [], 4096, 8192)
+            self.assertEqual((verdict.findings[0].said, verdict.empty, verdict.score), (
+                "pvck reports no errors; thin volumes, which only LVM2 reads, so intact files decide: /dev/vg/home", False, score))
+            self.assertEqual(looks.finding_of(looks.fields_of(verdict)["findings"][0]), verdict.findings[0])
+        self.assertTrue(self.checkers(("pvck", put("vg {"))).look(self.volume((0, head)), [], 4096, 8192).empty)
 
     def test_volume_that_ends_too_soon(self) -> None:
         seen: list[int] = []
@@ -523,7 +554,7 @@ class Looks(InFolder):
         found = self.checkers(("xfs_repair", sized))
         verdict = found.look(self.volume((0, self.xfs(5 * MIB))), [], 4096, 8192)
         self.assertEqual((seen, verdict.findings[0].lacks), ([5 * MIB], MIB))
-        self.assertEqual(verdict.findings[0].said, "xfs_repair clean, with zeros for its last 1.0 MiB, which are not there")
+        self.assertEqual(verdict.findings[0].said, "xfs_repair reports no errors, with zeros in place of its last 1.0 MiB, which are missing")
         # Where most of it is missing nothing is put behind it.
         found.look(self.volume((0, self.xfs(50 * MIB))), [], 4096, 8192)
         self.assertEqual(seen[1:], [4 * MIB])
@@ -537,7 +568,7 @@ class Looks(InFolder):
                                               (1536, 0, True, Score.KNOWN), (1536, 512, True, Score.WHOLE), (0, 0, None, Score.WHOLE)):
                 finding = Finding("", kind, clean, pieces=(Piece(0, 1024),), lacks=lacks, told=told, there=1024)
                 verdict = Verdict([finding], Wholes(1, 1, 1 << 20), length=1024, chunk=10, row=100)
-                self.assertEqual((verdict.score, verdict.doubts), (score, [f"{kind} says that it has 3 sectors, and 2 are there"]
+                self.assertEqual((verdict.score, verdict.doubts), (score, [f"{kind} states 3 sectors, but only 2 are there"]
                                                                    if score is Score.KNOWN else []))
 
     def test_how_long_it_says_that_it_is(self) -> None:
@@ -564,8 +595,8 @@ class Looks(InFolder):
             return Answer(int(len(data) != 5 * MIB or data[-SECTOR:] != data[:SECTOR] or any(data[-MIB:-SECTOR])))
         head = b"\xeb\x52\x90NTFS    ".ljust(40, b"\0") + struct.pack("<Q", 10239)
         verdict = self.checkers(("ntfsfix", ends_as_it_begins)).look(self.volume((0, head)), [], 4096, 8192)
-        self.assertEqual(verdict.findings[0].text(), "ntfs: ntfsfix clean, with zeros and a copy of its first sector for its last 1.0 MiB, "
-                         "which are not there")
+        self.assertEqual(verdict.findings[0].text(), "ntfs: ntfsfix reports no errors, with zeros and a copy of its first sector in place of its "
+                                                     "last 1.0 MiB, which are missing")
         self.assertEqual((seen_length(SYSTEMS["ntfs"], 0, 50, 0), seen_length(SYSTEMS["xfs"], 40, 50, 0)), (50, 50))
 
     def test_long_files_where_the_first_ones_lie_within_a_chunk(self) -> None:
@@ -584,11 +615,55 @@ class Looks(InFolder):
         for whole, more, score in ((60, True, Score.WHOLE), (60, False, Score.KNOWN), (20, True, Score.KNOWN)):
             with mock.patch.object(wholes, "count", return_value=Wholes(64, whole, 4000, more)), \
                     mock.patch.object(wholes, "count_long", return_value=Wholes(1, 1, 9000)) as long:
-                verdict = self.checkers().look(self.volume((0, bytes(head)), (4095, bytes(SECTOR))), [], 4096, 8192)
+                verdict = self.checkers(there=()).look(self.volume((0, bytes(head)), (4095, bytes(SECTOR))), [], 4096, 8192)
             self.assertEqual((verdict.score, long.called), (score, whole == 60 and more))
         with mock.patch.object(wholes, "count", return_value=Wholes(64, 60, 9000, True)), mock.patch.object(wholes, "count_long") as long:
             verdict = self.checkers(("xfs_repair", put(""))).look(self.volume((0, self.xfs(4096 * SECTOR))), [], 4096, 8192)
         self.assertEqual((verdict.score, long.called), (Score.WHOLE, False))
+
+    def test_no_checker(self) -> None:
+        """That intact files alone decide is said, and by which tool a checker could be had that is not here."""
+        looks = self.checkers(("blkid", put("TYPE=f2fs\n")), there=("blkid",))
+        self.assertEqual(looks.look(self.volume((2, b"\x10\x20\xf5\xf2")), [], 4096, 8192).findings[0].text(),
+                         "f2fs: no checker, so intact files decide")
+        fat = self.volume((0, FAT))
+        self.assertEqual(self.checkers(there=()).look(fat, [], 4096, 8192).findings[0].text(), "vfat: fsck.fat is not installed")
+
+    def test_fat(self) -> None:
+        """A FAT that was only not unmounted is left to its files; one with other faults is not right, however many it is told of."""
+        dirty = ("There are differences between boot sector and its backup.\nThis is mostly harmless. Differences: (offset:original/backup)\n"
+                 "  65:01/00\n  Not automatically fixing this.\nDirty bit is set. Fs was not properly unmounted and some data may be corrupt.\n"
+                 " Automatically removing dirty bit.\nFree cluster summary wrong (5 vs. really 120957)\n  Auto-correcting.\n"
+                 "Reclaimed 33 unused clusters (135168 bytes).\n\nLeaving filesystem unchanged.\n")
+        head, last = "fsck.fat 4.2 (2021-01-31)\n", "volume: 2068 files, 30559/106284 clusters\n"
+        wrong = "/long\n  Contains a free cluster (30890). Assuming EOF.\n"
+        minor = "fsck.fat reports errors (status 1), only that it was not unmounted, so intact files decide"
+        errors = "fsck.fat reports errors (status 1)"
+        for text, status, clean, said in (("", 0, True, "fsck.fat reports no errors"), (dirty, 1, None, minor), (dirty + wrong, 1, False, errors),
+                                          ("FATs differ - using first FAT.\n", 1, False, errors)):
+            verdict = self.checkers(("fsck.fat -n", put(head + text + last, status))).look(self.volume((0, FAT)), [], 4096, 8192)
+            self.assertEqual((verdict.findings[0].clean, verdict.findings[0].said), (clean, said))
+        self.assertEqual(SYSTEMS["vfat"].pipeline("v"), [["fsck.fat", "-n", "v"], ["head", "-c", "65536"]])
+        self.assertEqual(SYSTEMS["ext4"].pipeline("v", 512), [["e2fsck", "-fn", "v?offset=512"]])
+
+    def test_a_checker_that_writes(self) -> None:
+        """It gets a copy of its own, which is gone afterwards; where that is too long it is not asked."""
+        data = bytearray(4 * MIB)
+        data[65536:65540], data[65536 + 44:65536 + 46], data[65536 + 52:65536 + 61] = struct.pack("<I", 1024), struct.pack("<H", 4096), b"ReIsEr2Fs"
+        seen: list[str] = []
+
+        def writes(words: list[str], _: str) -> Answer:
+            seen.append(words[-1])
+            with open(words[-1], "r+b") as file:
+                file.write(b"changed")
+            return Answer(0)
+        volume = self.volume((0, bytes(data)))
+        looks = self.checkers(("fsck.reiserfs --check --yes --quiet", writes))
+        self.assertEqual(looks.look(volume, [], 4096, 8192).findings[0].text(), "reiserfs: fsck.reiserfs reports no errors")
+        with open(volume.path, "rb") as file:
+            self.assertEqual((file.read() == data, os.path.exists(seen[0]), seen[0] == volume.path), (True, False, False))
+        looks.most = MIB
+        self.assertEqual(looks.ask(SYSTEMS["reiserfs"], volume, Region("", (Piece(0, 4 * MIB),)), 4 * MIB, None), None)
 
     def test_encrypted(self) -> None:
         verdict = self.checkers().look(self.volume((0, b"LUKS\xba\xbe")), [], 4096, 8192)
@@ -606,7 +681,7 @@ class Looks(InFolder):
         self.assertEqual((verdict.files.found, verdict.files.whole, verdict.score), (1, 1, Score.WHOLE))
         head = bytes(65600) + b"_BHRfS_M"
         verdict = self.checkers(("btrfs check", put(""))).look(self.volume((0, head), (1000, one)), [], 512, 1024)
-        self.assertEqual((verdict.files.found, verdict.text()), (0, "btrfs: btrfs clean, the sums of all data right"))
+        self.assertEqual((verdict.files.found, verdict.text()), (0, "btrfs: btrfs reports no errors, all data checksums match"))
 
     def test_long_files_are_looked_for_where_the_first_are_short(self) -> None:
         small = gzip.compress(b"a").ljust(SECTOR, b"\0")
@@ -615,10 +690,19 @@ class Looks(InFolder):
         self.assertTrue(verdict.files.long and verdict.files.long.whole == 1)
         self.assertEqual(verdict.score, Score.WHOLE)
 
+    def test_a_volume_that_is_cut_for_want_of_room(self) -> None:
+        """A checker that finds fault in it says nothing of the whole, so the volume counts as unchecked; one that is content counts."""
+        path = self.file("v", (b"XFSB" + struct.pack(">IQ", 4096, 16)).ljust(64 * KIB, b"\0"))
+        for status, clean, said in ((1, None, "(status 1), over only its first bytes, for lack of space"), (0, True, "no errors")):
+            verdict = self.checkers(("xfs_repair", put("", status))).look(Volume(path, 64 * KIB, cut=True), [], KIB, KIB)
+            self.assertEqual((verdict.findings[0].clean, said in verdict.findings[0].said, verdict.lacked_room), (clean, True, True))
+        whole = self.checkers(("xfs_repair", put("", 1))).look(Volume(path, 64 * KIB), [], KIB, KIB)
+        self.assertEqual((whole.findings[0].clean, whole.lacked_room), (False, False))
+
     def test_is_there(self) -> None:
         self.assertTrue(checkers.is_there("sh"))
         self.assertFalse(checkers.is_there("no-such-command-here"))
-        self.assertEqual((checkers.size_said(1), checkers.size_said(3 * MIB // 2)), ("1 byte", "1.5 MiB"))
+        self.assertEqual((size_said(1), size_said(1023), size_said(31073), size_said(3 * MIB // 2)), ("1 byte", "1023 bytes", "30.3 KiB", "1.5 MiB"))
         self.assertTrue(threading.active_count() >= 1)
 
 

@@ -111,7 +111,7 @@ class Files(unittest.TestCase):
         self.make(a_qcow2=bytes(1024))
         said = containers.known([str(self.folder / "a.qcow2")])
         self.assertEqual(said.images, (str(self.folder / "a.qcow2"),))
-        self.assertIn("its name says qcow2, and its bytes do not", said.lines[0])
+        self.assertIn("its contents are not qcow2", said.lines[0])
 
 
 class Lines(unittest.TestCase):
@@ -120,7 +120,8 @@ class Lines(unittest.TestCase):
     def test_by_hand(self) -> None:
         self.assertEqual(opening.by_hand(Container(EWF, ("a b.E01",)), 0), (("mkdir -p opened/0", "ewfmount 'a b.E01' opened/0"), "opened/0/ewf1"))
         self.assertEqual(opening.by_hand(Container("qcow2", ("a.qcow2",)), 1), (
-            ("mkdir -p opened/1", "nbdfuse -r opened/1/disk [ qemu-nbd -r -f qcow2 a.qcow2 ] &"), "opened/1/disk"))
+            ("mkdir -p opened/1", "nbdfuse -r opened/1/disk [ qemu-nbd -r -f qcow2 a.qcow2 ] &",
+             "timeout 60 sh -c 'until [ -e opened/1/disk ]; do sleep 0.1; done'"), "opened/1/disk"))
         self.assertEqual(opening.by_hand(Container(SPLIT, ("a.001", "a.002")), 2)[0][1],
                          "nbdfuse -r opened/2/disk --command nbdkit -s -r split file=a.001 file=a.002 &")
 
@@ -172,10 +173,10 @@ class Opens(unittest.TestCase):
 
     def test_what_does_not_open(self) -> None:
         self.tool("nbdfuse", "echo not a disk >&2; exit 3")
-        with self.assertRaisesRegex(OutsideError, "^a.qcow2: qcow2, and nbdfuse does not open it: not a disk$"):
+        with self.assertRaisesRegex(OutsideError, "^a.qcow2: qcow2: nbdfuse does not open it: not a disk$"):
             self.opener.open(Container("qcow2", ("a.qcow2",)))
         self.tool("ewfmount", "exit 0")
-        with self.assertRaisesRegex(OutsideError, "ewfmount does not open it: it says nothing"):
+        with self.assertRaisesRegex(OutsideError, "ewfmount does not open it: it prints no reason"):
             with mock.patch.object(opening, "MOST_SECONDS", 0.3):
                 self.opener.open(Container(EWF, ("c.E01",)))
 
@@ -183,7 +184,7 @@ class Opens(unittest.TestCase):
         """It is not opened, and what shows less than a sector is no disk."""
         self.tool("ewfmount", "head -c 511 /dev/zero > \"$2\"/ewf1")
         with mock.patch.object(opening, "fault", lambda it: "it is cut"):
-            with self.assertRaisesRegex(OutsideError, "^c.E01: E01, and it is not whole: it is cut"):
+            with self.assertRaisesRegex(OutsideError, "^c.E01: E01 is incomplete: it is cut"):
                 self.opener.open(Container(EWF, ("c.E01",)))
         self.assertEqual(self.opener.mounts, [])
         with self.assertRaisesRegex(OutsideError, "it shows a disk without a sector"):

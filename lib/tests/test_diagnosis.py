@@ -52,7 +52,7 @@ class Nearest(unittest.TestCase):
 
     def of_hunt(self, listed: Reply, *shapes: Shape, groups: bool = True, unsound: bool = True,
                 check: Reply = lambda *_: put("unsound 5 of 1000\nfail\n")) -> tuple[Diagnosis, Standin, Told]:
-        """A diagnosis of a hunt over these shapes, which may have landmarks, of which `reraid` lists this, and mostly says 5 unsound rows of 1000."""
+        """A diagnosis of a hunt over these shapes, which may have landmarks, of which `reraid` lists this, and mostly says 5 of 1,000 rows."""
         hunt, report = hunt_of(("reraid list", listed), ("reraid check", check)), Told()
         plan = plan_of(XFS, EXT) if groups else plan_of()
 
@@ -127,9 +127,9 @@ class Nearest(unittest.TestCase):
         """Sets by their rows, and by their marks; else why there are none."""
         found, _, report = self.of_hunt(with_five, Shape("5", 3))
         found.show(False)
-        heads = [line for line in report.lines if line.startswith("diagnosis: ")]
-        both = ["diagnosis: of the sets that landmarks allow these have the fewest unsound rows",
-                "diagnosis: of the sets that parity allows these have the most groups and marks that fit"]
+        heads = [line for line in report.lines if line.startswith("nearest layouts: ")]
+        both = ["nearest layouts: of those that landmarks allow, these have the fewest inconsistent rows",
+                "nearest layouts: of those that parity allows, these match the most landmarks"]
         self.assertEqual((heads, [line.split(":")[0] for line in report.lines if line not in heads]), (both, ["  5", "  5"]))
 
         def by_rows(words: list[str], text: str) -> Answer:
@@ -140,14 +140,14 @@ class Nearest(unittest.TestCase):
         for listed, wanted in ((by_rows, both[:1]), (by_marks, both[1:])):
             found, _, report = self.of_hunt(listed, Shape("5", 3))
             found.show(False)
-            self.assertEqual([line for line in report.lines if line.startswith("diagnosis: ")], wanted)
-        nothing = "parity rules no set out at the levels and with the lost disks that were searched, so no set can be called near by it"
+            self.assertEqual([line for line in report.lines if line.startswith("nearest layouts: ")], wanted)
+        nothing = "none, since parity rules out no layout at the levels and numbers of missing disks that were searched"
         for shape, late, said in ((Shape("0", 3), True, nothing),
-                                  (Shape("5", 3), True, "no set is known to be near, as not all was looked at (--time gives more)"),
-                                  (Shape("5", 3), False, "no set is near: landmarks and parity each allow none")):
+                                  (Shape("5", 3), True, "none is known, since some steps timed out (--time allows more)"),
+                                  (Shape("5", 3), False, "none, since neither landmarks nor parity allow any")):
             found, _, report = self.of_hunt(lambda *_: put("next 9 of 9\n"), shape)
             found.show(late)
-            self.assertEqual(report.lines, [f"diagnosis: {said}"])
+            self.assertEqual(report.lines, [f"nearest layouts: {said}"])
 
     def test_about_the_fewest(self) -> None:
         """Of sets with 64, 60 and 32 unsound rows the listing gives the worst that may pass, and each says how many the next may have."""
@@ -254,7 +254,7 @@ class Nearest(unittest.TestCase):
         near = Near(SET, plan_of(XFS), Checked(0, 1000, (Held("xfs", 0, 3, 0),)))
         with mock.patch.object(found.rows, "turned", side_effect=[Turned(640, 4, 5), None]):
             found.lines([near, near])
-        self.assertEqual([line.partition("; 4 marks fit before row 640, and from there on 5 do not")[1] != "" for line in report.lines],
+        self.assertEqual([line.partition("; 4 landmarks match before row 640, and 5 from there on do not")[1] != "" for line in report.lines],
                          [True, False])
         self.assertEqual([it["reshaped"] for it in report.record.of("near")], [640, None])
 
@@ -262,7 +262,7 @@ class Nearest(unittest.TestCase):
         """Where a hunt has some of the images, a set is printed with the numbers that they have among all."""
         for numbers, word in (((0, 1, 2), SET), ((1, 3, 4), "5:ls:none:128:2048:1,3,4")):
             said = self.lines([Image(f"i{number}", number, 8000) for number in numbers])
-            self.assertEqual(said, [f"  {word}: 5 unsound rows of 1000; xfs origin 0 fits 3 misfits 0"])
+            self.assertEqual(said, [f"  {word}: 5 of 1000 rows inconsistent; xfs origin 0 fits 3 misfits 0"])
 
 
 if __name__ == "__main__":

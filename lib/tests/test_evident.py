@@ -22,6 +22,7 @@ from reraid_try.evidence.relations import Relations
 from reraid_try.evidence.shared import Place
 from reraid_try.evidence.shifts import Distances, Shift
 from reraid_try.evidence.tables import Partition, Table
+from reraid_try.evidence.ties import Ties
 from reraid_try.evidence.unlike import Unlike
 from reraid_try.options import Options
 from reraid_try.policy import cures
@@ -46,11 +47,12 @@ class NoTools(Standin):
         return super().run(words, text, seconds) if words[0] == "reraid" else Answer(1)
 
 
-def evident(images: Sequence[Image], runner: Standin, options: Options) -> tuple[Evident, Told]:
-    """The evidence of a search over these images, and its report."""
+def evident(images: Sequence[Image], runner: Standin, options: Options, closed: bool = False) -> tuple[Evident, Told]:
+    """The evidence of a search over these images, which may be encrypted, and its report."""
     report = Told()
     room = types.SimpleNamespace(base="/nowhere")
-    search = types.SimpleNamespace(images=images, options=options, report=report, commands=runner, room=room, tested=[], stale=set(), reshapes=[])
+    search = types.SimpleNamespace(images=images, options=options, report=report, commands=runner, room=room, tested=[], stale=set(), reshapes=[],
+                                   is_closed=lambda _: closed, surveys="the surveys", ties=Ties(runner, images, options.seconds))
     return Evident(cast(Any, search)), report
 
 
@@ -137,7 +139,8 @@ class Attempts(unittest.TestCase):
             """A listing without landmarks."""
             asked.append("bare")
             return False
-        it = Zeros(cast(Any, types.SimpleNamespace(options=Options(("a",)), take_step=step, attempt_bare=bare, tested=tested)))
+        search = types.SimpleNamespace(options=Options(("a",)), take_step=step, attempt_bare=bare, tested=tested, is_hopeless=lambda _: False)
+        it = Zeros(cast(Any, search))
         it.order, it.ends = asked, ends
         hunt = types.SimpleNamespace(plan=types.SimpleNamespace(groups=["a group"] if groups else []), program=types.SimpleNamespace(seconds=0),
                                      cut_short=set(), ask_again=lambda: asked.append("again"))
@@ -213,7 +216,8 @@ class Attempts(unittest.TestCase):
             asked.clear()
             found = types.SimpleNamespace(encrypted=[])
             tested = [types.SimpleNamespace(score=Score.CHECKED, found=found, trial=types.SimpleNamespace(shape=shape)) for shape in signed]
-            it = Evident(cast(Any, types.SimpleNamespace(options=Options(("a",)), take_step=step, tested=tested)))
+            search = types.SimpleNamespace(options=Options(("a",)), take_step=step, tested=tested, is_hopeless=lambda _: False)
+            it = Evident(cast(Any, search))
             it.loosened(cast(Any, types.SimpleNamespace(program=types.SimpleNamespace())), Aim((0, 1, 2), Span(0, 9), "why", shapes), 0)
             self.assertEqual(asked, wanted)
 
@@ -235,7 +239,7 @@ class ByPlaces(unittest.TestCase):
         def take(_hunt: Any, trial: Trial, sets: Any, _words: Any) -> bool:
             """The sets are tested."""
             self.assertEqual([it.text for it in sets], ["5:ls:none:16:64:0,1,2"])
-            self.assertEqual(said, ["1 set (those against which the fewest rows with zeros speak; no others were looked at)"])
+            self.assertEqual(said, ["1 layout passes (those that the fewest rows of zeros contradict; no others were tested)"])
             taken.append(trial)
             return True
         placement = types.SimpleNamespace(words=lambda *_: ["5:ls:none:16:64:0,1,2"])
@@ -311,7 +315,8 @@ class Apart(unittest.TestCase):
     """Images that hold the same, but not at the same sectors."""
 
     images = [Image(name, number, 900, first=8) for number, name in enumerate("abc")]
-    named = "metadata on image 1 say (LVM2): parts of volumes begin at sectors 8, 16"
+    named = "metadata on image 1 (LVM2): parts of volumes begin at sectors 8, 16"
+    copied = True
 
     def unlike(self, known: Sequence[ties.Known], alone: Sequence[int], shown: Sequence[Shift], offsets: Sequence[Unlike] = (),
                options: Options = Options(("a",)), partition: bool = False) -> list[Aim]:
@@ -320,6 +325,7 @@ class Apart(unittest.TestCase):
         told, part = ties.Told(tuple(known), tuple(alone), True), Part((0, 1, 2), Span(0, 900, partition))
         with mock.patch("reraid_try.policy.evident.unlike.found_shifts", return_value=Distances(tuple(shown))), \
                 mock.patch("reraid_try.policy.evident.metadata.lvm_starts", return_value={1: (8, 16)}), \
+                mock.patch("reraid_try.policy.evident.copying.lie_apart", return_value=self.copied), \
                 mock.patch("reraid_try.policy.evident.unlike.look", return_value=offsets) as look:
             found = it.unlike(it.asked(), told, part)
         if look.called:
@@ -331,17 +337,21 @@ class Apart(unittest.TestCase):
         shown = [Shift(0, 1, 128, 50), Shift(1, 2, 128, 40)]
         aim, _ = self.unlike((), (0, 1, 2), shown)
         self.assertEqual((aim.images, aim.copied, aim.apart, aim.shapes), ((0, 1, 2), True, 128, ()))
-        self.assertEqual(aim.why, "the images hold the same 128 sectors apart, as RAID 10 with copies of layout offset does, and as any array "
-                         "may in which the same files are stored twice, or whose data begin at unlike sectors")
+        self.assertEqual(aim.why, "much of the data is on another image too, 128 sectors apart, as in RAID 10 of layout offset")
         self.assertEqual([aim.apart for aim in self.unlike((), (0, 1, 2), shown, options=Options(("a",), levels=("5",)))], [None])
         self.assertEqual(self.report.lines, [self.named])
         five = ties.Known(Family((0, 1, 2), 500, 8, 900, "5", 1), None, 40)
         found = self.unlike((), (0, 1, 2), shown, [Unlike((8, 136, 264), five), Unlike((0, 128, 256), dataclasses.replace(five, begin=48))])
         self.assertEqual([(aim.moved, aim.apart, aim.begin, aim.shapes) for aim in found],
                          [((8, 136, 264), None, 40, (Shape("5", 3),)), ((0, 128, 256), None, 48, (Shape("5", 3),))])
-        self.assertEqual(self.report.lines, [self.named, "the data begin at unlike sectors of the images, at which parity ties them: 8, 136, 264"])
+        self.assertEqual(self.report.lines, [self.named, "the data begin at different sectors of the images; parity matches at these: 8, 136, 264"])
         aim, = self.unlike((), (0, 1, 2), shown, [Unlike((8, 136, 264), five)], partition=True)
         self.assertEqual((aim.moved, aim.apart, self.report.lines), ((), 128, []))
+
+    def test_files_that_are_stored_twice(self) -> None:
+        """A distance that few sectors have is no reason to look for copies."""
+        self.copied = False
+        self.assertEqual([aim.apart for aim in self.unlike((), (0, 1, 2), [Shift(0, 1, 128, 50), Shift(1, 2, 128, 40)])], [None])
 
     def test_beginnings_before_copies(self) -> None:
         """Distances that agree with one beginning of each image, and might not, are tried as such before RAID 10; those of a chain behind it."""
@@ -424,7 +434,7 @@ class Parts(unittest.TestCase):
         places = [Place(100, 400, (0, 1)), Place(500, 300, (0, 1, 2)), Place(8, 90, (0, 1, 2), copied=True)]
         with mock.patch("reraid_try.policy.evident.shared.looked_at", return_value=places):
             self.assertEqual(list(found.parts()), [Part((0, 1), Span(100, 500, True)), Part((0, 1, 2), Span(500, 800, True))])
-        self.assertEqual([line.endswith("; passed over") for line in report.lines], [False, False, True])
+        self.assertEqual([line.endswith("; skipped") for line in report.lines], [False, False, True])
         with mock.patch("reraid_try.policy.evident.shared.looked_at", return_value=[Place(8, 90, (0, 1, 2), empty=True)]):
             self.assertEqual(list(found.parts()), [Part((0, 1, 2), Span(0, 900))])
         nothing, _ = evident([Image("a", 0, 900)], NoTools({}), Options(("a",)))
@@ -464,7 +474,7 @@ class Parts(unittest.TestCase):
             with mock.patch("reraid_try.policy.evident.Hunt") as hunt:
                 found.hunt()
             self.assertEqual((tuple(it.number for it in hunt.call_args[0][2]), hunt.call_args[1].get("start", 0)), (images, start))
-            self.assertEqual(report.lines, ["goes on in the partition from sector 100 on"] if start else [])
+            self.assertEqual(report.lines, ["continuing in the partition from sector 100 on"] if start else [])
 
     def test_images_that_are_the_same(self) -> None:
         """They are tried as RAID 10, but in a partition, or where that level is not asked for; what holds nothing is none of it."""
@@ -534,7 +544,7 @@ class Sought(unittest.TestCase):
             told = it.seek(aim, later)
             self.assertEqual([one.aim for one in later], [aim] * bool(aim.moved and not ends))
             told = any(it.loosen(one) for one in later) or told
-        self.assertEqual((report.lines, it.search.why), ([f"looks for this first: {aim.why}"], ""))
+        self.assertEqual((report.lines, it.search.why), ([f"trying first: {aim.why}"], ""))
         return told, done, hunt.call_args
 
     def test_what_is_done(self) -> None:
@@ -543,7 +553,7 @@ class Sought(unittest.TestCase):
         told, done, begun = self.seek(aim, Score.CHECKED)
         self.assertEqual((told, done), (True, ["evidence", "plain 1 why", "loosened 1 why"]))
         self.assertEqual(([it.number for it in begun[0][2]], begun[0][0].seconds), ([2, 0], 10))
-        self.assertEqual(begun[1], {"start": 100, "asked": {"chunks": "8"}, "tied": True})
+        self.assertEqual(begun[1], {"start": 100, "asked": {"chunks": "8"}, "tied": True, "shared": "the surveys"})
         self.assertEqual(self.seek(aim, Score.KNOWN)[0], False)
         copied = Aim((2, 0), Span(0, 900), "why", copied=True)
         self.assertEqual(self.seek(copied)[:2], (False, ["evidence", "copies 1", "plain 1 why", "loosened 1 why"]))
@@ -591,7 +601,8 @@ class Sought(unittest.TestCase):
                 steps, begun, said, told = self.with_all(images, has)
                 self.assertIs(told, has is not None)
                 self.assertEqual(steps, [(name, number, (Shape("5", 3),), 60, is_of_bad_rows, why) for number in (1, 2)][:count])
-                self.assertEqual(begun, [([0, 1, 2], {"start": 100, "asked": {"chunks": "8"}, "tied": True})] * (name == "new" and count > 0))
+                self.assertEqual(begun, [([0, 1, 2], {"start": 100, "asked": {"chunks": "8"}, "tied": True, "shared": "the surveys"})] *
+                                 (name == "new" and count > 0))
                 self.assertEqual(said, [why] * (count > 0))
 
     def test_bad_rows(self) -> None:
@@ -600,12 +611,6 @@ class Sought(unittest.TestCase):
         asked = (cures.bad_rows(9, [0]), cures.no_records(), cures.misfits(), cures.delays())
         self.assertEqual((step.shapes, step.count, step.every), ((Shape("5", 3),), 2, False))
         self.assertEqual([bool(step.only and step.only(cure)) for cure in asked], [True, True, False, False])
-
-    def test_asked_by_one(self) -> None:
-        """That the program does not know a command is kept in mind, so one asks all of it, in the whole time of a trial."""
-        it, _ = evident([], NoTools({}), Options(("a",), seconds=60))
-        self.assertIs(it.asked(), it.asked())
-        self.assertEqual(it.asked().seconds, 60)
 
     def test_time_of_a_question(self) -> None:
         """A sixth of that of a trial, and five seconds at least."""
@@ -706,6 +711,17 @@ class Evidence(unittest.TestCase):
             self.assertEqual([aim.why for aim in it.aims(Part((0, 1, 2), Span(0, 300)))],
                              ["metadata", "unlike", "perhaps", "tied", "perhaps", "copied without []", "alike without []", "untied"])
 
+    def test_encrypted_images_that_nothing_ties(self) -> None:
+        """Only metadata give a reason for a trial then; in a partition others may."""
+        metadata = Aim((0, 1, 2), Span(0, 300), "metadata", (Shape("0", 3),))
+        images = [Image(name, number, 300, first=0) for number, name in enumerate("abc")]
+        for closed, partition, more in ((True, False, False), (False, False, True), (True, True, True)):
+            it, _ = evident(images, Standin({}, Answer(None)), Options(("a",)), closed)
+            with mock.patch.multiple(it, unlike=lambda *_: [], by_metadata=lambda *_: [metadata]), \
+                    mock.patch("reraid_try.policy.evident.plain.untied", return_value=[dataclasses.replace(metadata, why="untied")]):
+                found = it.aims(Part((0, 1, 2), Span(0, 300, partition)))
+            self.assertEqual([aim.why for aim in found], ["metadata", "untied"] if more else ["metadata"])
+
     def test_images_without_their_like(self) -> None:
         """Those that neither are the same as another one nor have one that is, and hold something."""
         images = [Image("a", number, 300, first=None if number == 5 else 0, like={1: 0}.get(number)) for number in range(6)]
@@ -746,7 +762,7 @@ class Evidence(unittest.TestCase):
         for _ in range(2):
             aim, = found.aims(Part(tuple(range(5)), Span(0, 200)))
         self.assertEqual((aim.images, aim.shapes), ((0, 1, 2, 3, 4), (Shape("5", 5),)))
-        self.assertIn("ties change for good between sector 99 and sector 100: up to the first 5 images are tied", report.text)
+        self.assertIn("parity changes for good between sectors 99 and 100: before, it matches 5 images", report.text)
         self.assertEqual([(it.last, it.sector) for it in found.search.reshapes], [(99, 100)])
 
     def test_an_image_twice_and_an_empty_one(self) -> None:

@@ -10,12 +10,13 @@ from unittest import mock
 
 from reraid_try.calls.commands import Answer
 from reraid_try.evidence import fills, texts
+from reraid_try.evidence.families import Family, Old
 from reraid_try.evidence.fills import Fill, Why
 from reraid_try.evidence.images import Image, unread_by
 from reraid_try.evidence.maps import Map
 from reraid_try.evidence.relations import Relations, Rows, Tie
 from reraid_try.evidence.texts import Held, Text
-from reraid_try.evidence.ties import Ties
+from reraid_try.evidence.ties import Known, Ties, Told
 from reraid_try.units import SECTOR
 from tests.standin import InFolder, Standin
 
@@ -141,40 +142,76 @@ class Asked(InFolder):
                            (rows((5, 7, (1,), [[2, 0]])), Why.STORED), (rows((5, 7, (), [[2, 0]])), Why.UNREAD),
                            (rows((5, 6, (), ()), (7, 8, (), [[2, 0, 1]])), Why.STORED), (rows((5, 7, (), ()), (8, 9, (), [[2, 0, 1]])), Why.UNREAD)):
             self.assertIs(fills.in_run(found, tied), why, found)
-        self.assertEqual(fills.tied_with(rows((1, 1, (), [[2, 0, 1]]), (9, 9, (), [[3, 4]])), 1), tied)
-        self.assertEqual((fills.tied_with(None, 1), fills.tied_with(rows((1, 1, (), [[2, 0]])), 1)), (frozenset(), frozenset()))
+
+    def test_rows_beside_a_run(self) -> None:
+        """Parity holds where all images of the family are tied, but for those that are zeros; two that hold the same by chance are not enough. Rows
+        of zeros alone count from the first row of the family on."""
+        family = Family((0, 1, 2), 100, 5, 99, "5", 1)
+        for found, told in ((None, False), (rows((1, 1, (), [[2, 0, 1]]), (9, 9, (), ())), True), (rows((1, 1, (), [[2, 0]])), False),
+                            (rows((1, 1, (1,), [[2, 0]])), True), (rows((1, 1, (0, 1, 2), ())), False), (rows((5, 5, (0, 1, 2), ())), True),
+                            (rows((1, 1, (), ()), (9, 9, (), ())), False)):
+            self.assertIs(fills.holds_beside(found, family), told, found)
 
     def test_which_rows_are_asked(self) -> None:
-        asked: list[tuple[int, int, int]] = []
+        asked: list[tuple[Sequence[int], int, int, int]] = []
 
         class Kept:
-            """Ties that keep what is asked, and say that rows beside a run are tied."""
+            """Ties that keep what is asked, and say that rows beside a run are tied, and those of a run are not."""
 
             def relations(self, numbers: Sequence[int], first: int, end: int, step: int) -> Relations:
-                asked.append((first, end, step))
-                return rows((first, first, (), [list(reversed(numbers))] if len(asked) % 2 else []))
-        ties = cast(Any, Kept())
-        for run, first in (((5, 7), [(4, 8, 3), (5, 7, 1)]), ((0, 40), [(40, 41, 41), (0, 40, 3)]), ((90, 100), [(89, 100, 11), (90, 100, 1)])):
+                asked.append((numbers, first, end, step))
+                return rows((first, first, (), [list(reversed(numbers))] if len(asked) % 2 == 0 else []))
+        ties, family = cast(Any, Kept()), Family((0, 1, 2), 100, 0, 99, "5", 1)
+        for run, first in (((5, 7), [(5, 7, 1), (4, 8, 3)]), ((0, 40), [(0, 40, 3), (40, 41, 41)]), ((90, 100), [(90, 100, 1), (89, 100, 11)])):
             asked.clear()
-            self.assertIs(fills.of_run(ties, (0, 1, 2), 1, run, 100), Why.UNREAD)
-            self.assertEqual(asked, first)
+            self.assertIs(fills.of_run(ties, family, run, 100), Why.UNREAD)
+            self.assertEqual(asked, [((0, 1, 2), *it) for it in first])
         for run in ((95, 101), (0, 100)):
-            self.assertIs(fills.of_run(ties, (0, 1, 2), 1, run, 100), Why.UNTOLD)
-        asked.append((0, 0, 0))
-        self.assertIs(fills.of_run(ties, (0, 1, 2), 1, (5, 7), 100), Why.UNTOLD)
+            self.assertIs(fills.of_run(ties, family, run, 100), Why.UNTOLD)
+        asked[:] = [([], 0, 0, 0)]
+        self.assertIs(fills.of_run(ties, family, (5, 7), 100), Why.STORED)
+
+    def test_a_run_beside_which_parity_fails(self) -> None:
+        """Nothing tells that a text is an imaging program's if parity holds neither in it nor beside it."""
+        class Loose:
+            """Ties of images of which none are tied."""
+
+            def relations(self, _numbers: Sequence[int], first: int, _end: int, _step: int) -> Relations:
+                return rows((first, first, (), []))
+        self.assertIs(fills.of_run(cast(Any, Loose()), Family((0, 1, 2), 100, 0, 99, "5", 1), (5, 7), 100), Why.UNTOLD)
+
+    def test_which_families_tell(self) -> None:
+        """Parity tells of a family that has some to spare, and not of as many disks as are left when the level bears no more."""
+        def family(level: str | None, parity: int, *images: int, old: tuple[int, ...] = ()) -> Family:
+            return Family(images, 100, 0, 99, level, parity, tuple(Old(image, 9, 5) for image in old))
+        known = [family("5", 1, 0, 1, 2), family("6", 0, 3, 4, 5), family("10", 0, 6, 7), family("5", 1, 8, 9),
+                 family("6", 1, 10, 11, 12, 13, old=(13,))]
+        found = fills.telling(Told(tuple(map(Known, known)), asked=True))
+        self.assertEqual(found, [known[0], known[4]])
+        self.assertEqual([fills.family_of(found, image) for image in (1, 3, 6, 8, 10, 13)],
+                         [known[0], None, None, None, known[4], None])
 
     def test_places_of_a_text(self) -> None:
         images = [Image(name, number, 100) for number, name in enumerate("abc")]
+        known = [Family((0, 1, 2), 100, 0, 99, "5", 1)]
         it = held(*((sector, BAD) for sector in range(1, 40, 2)))
         for told, why in ((["unread"] * 11 + ["stored"], Why.UNREAD), (["unread"] * 10 + ["stored"], Why.STORED), (["untold"], Why.UNTOLD),
                           (["untold", "unread"], Why.UNREAD), (["untold", "stored"], Why.STORED)):
             answers = iter([Why(word) for word in told])
             with mock.patch.object(fills, "of_run", lambda *_: next(answers)), mock.patch.object(fills, "MOST_PLACES", len(told)):
-                self.assertIs(fills.asked(cast(Ties, None), images, 0, held(*((2 * sector, BAD) for sector in range(len(told))))), why)
+                here = held(*((2 * sector, BAD) for sector in range(len(told))))
+                self.assertIs(fills.asked(cast(Ties, None), images, known, 0, here), why)
         with mock.patch.object(fills, "of_run", side_effect=[Why.UNREAD] * 7) as of_run:
-            self.assertIs(fills.asked(cast(Ties, None), images, 0, it), Why.UNREAD)
-        self.assertEqual([call.args[3][0] for call in of_run.call_args_list], list(range(1, 40, 6)))
-        self.assertIs(fills.asked(cast(Ties, None), images[:1], 0, it), Why.UNTOLD)
+            self.assertIs(fills.asked(cast(Ties, None), images, known, 0, it), Why.UNREAD)
+        self.assertEqual([call.args[2][0] for call in of_run.call_args_list], list(range(1, 40, 6)))
+        self.assertIs(fills.asked(cast(Ties, None), images, [], 0, it), Why.UNTOLD)
+
+    def test_an_old_disk(self) -> None:
+        """Parity that fails in far more rows than texts fill says nothing of these: it fails for an old disk."""
+        image = Image("a.img", 0, 1000)
+        found = [Fill(image, held(*((sector, BAD) for sector in range(80))), Why.UNREAD, 1000)]
+        for loose, told in ((0, True), (20, True), (21, False)):
+            self.assertIs(fills.explained(found, Family((0, 1, 2), 100, 0, 99, "5", 1, loose=loose), 10), told)
 
     def test_what_is_told(self) -> None:
         image = Image("a.img", 0, 1000)
@@ -190,21 +227,25 @@ class Asked(InFolder):
     def test_lines(self) -> None:
         image = Image("a.img", 3, 1000)
         it = Fill(image, held((5, BAD), (6, BAD), (9, BAD)), Why.UNREAD, 900)
-        seen = 'image 3 a.img holds "BAD SECTOR " over and over in 3 of the 900 sectors that were read of it, from sector 5 to 9, in 2 places'
+        seen = 'image 3 a.img holds "BAD SECTOR " over and over in 3 of the 900 sectors read, from sector 5 to 9, in 2 places'
         self.assertEqual(it.line(),
-                         f"{seen}. The images are tied right beside these, and not there: as where an imaging program wrote it in place of what it "
-                         "could not read. So these sectors count as unread, as by a map")
+                         f"{seen}. Parity is consistent beside these sectors, and not in them. Probably an imaging program wrote the text in place "
+                         f"of what it could not read. So these sectors count as unread, as if a mapfile listed them")
         mapped = dataclasses.replace(it, image=dataclasses.replace(image, map=Map("a.map", "", ())))
         self.assertTrue(mapped.line().endswith("what it could not read"))
-        self.assertEqual(dataclasses.replace(it, why=Why.UNTOLD).line(),
-                         f"{seen}: as an imaging program writes where it cannot read, or what is stored there; nothing ties the images beside it, "
-                         "so that is not known")
+        untold = dataclasses.replace(it, why=Why.UNTOLD)
+        self.assertEqual(untold.line(),
+                         f"{seen}. Either an imaging program wrote it in place of what it could not read, or it is stored data. Parity does not "
+                         f"tell, so these sectors count as read. If an imaging program wrote it, write a mapfile and run again:\n    "
+                         r"printf '0 +\n0 2560 +\n2560 1024 -\n3584 1024 +\n4608 512 -\n5120 506880 +\n' > a.img.map")
+        many = dataclasses.replace(untold, held=held(*((2 * sector, BAD) for sector in range(200))))
+        self.assertTrue(many.line().endswith("save the mapfile that --json prints in the event fill as a.img.map, and run again"))
         counting = Fill(image, held((5, b"S 5"), (6, b"S 6")), Why.UNREAD, 900)
-        self.assertIn('"S 5" over and over, with numbers that count on, in 2 of the 900 sectors that were read of it, from sector 5 to 6. The',
+        self.assertIn('"S 5" over and over, with a running number, in 2 of the 900 sectors read, from sector 5 to 6. Parity',
                       counting.line())
         self.assertEqual(it.fields(), {"image": 3, "holds": '"BAD SECTOR " over and over', "sectors": 3, "of": 900, "runs": [[5, 2], [9, 1]],
                                        "why": "unread", "map": it.held.gaps(1000).text})
-        self.assertEqual([other.fields()["map"] for other in (mapped, dataclasses.replace(it, why=Why.UNTOLD))], [None, None])
+        self.assertEqual([other.fields()["map"] for other in (mapped, untold)], [None, it.held.gaps(1000).text])
 
     def test_what_counts_as_unread(self) -> None:
         images = [Image("a", 0, 100), Image("b", 1, 100, map=Map("b.map", "", ())), Image("c", 2, 100)]

@@ -71,7 +71,7 @@ class Regions(unittest.TestCase):
 
 
 class Files(unittest.TestCase):
-    """The file of a page is made at the start of a run, and is there at its end only with the page."""
+    """The file of a page is there only at the end of a run, and only with the page."""
 
     def casefile(self, name: str) -> gathering.Casefile:
         """What makes a page with this name."""
@@ -81,7 +81,7 @@ class Files(unittest.TestCase):
     def test_no_page(self) -> None:
         with tempfile.TemporaryDirectory() as folder:
             made = self.casefile(f"{folder}/page")
-            self.assertEqual(os.listdir(folder), ["page"])
+            self.assertEqual(os.listdir(folder), [])
             made.close()
             self.assertEqual(os.listdir(folder), [])
 
@@ -89,11 +89,11 @@ class Files(unittest.TestCase):
         with tempfile.TemporaryDirectory() as folder:
             made = self.casefile(f"{folder}/page")
             with redirect_stdout(io.StringIO()) as said:
-                made.write()
+                made.end(mock.Mock(images=()), 1)
             made.close()
             self.assertEqual(os.listdir(folder), ["page"])
-            self.assertIn("No candidate is told to be good", pathlib.Path(folder, "page").read_text(encoding="utf-8"))
-            self.assertEqual(said.getvalue(), f"{folder}/page has all of it\n")
+            self.assertIn("No candidate was rated", pathlib.Path(folder, "page").read_text(encoding="utf-8"))
+            self.assertEqual(said.getvalue(), f"{folder}/page is the report\n")
 
     def test_no_place(self) -> None:
         with self.assertRaisesRegex(OutsideError, "cannot be written"):
@@ -119,11 +119,11 @@ class Progress(unittest.TestCase):
         bar = Bar()
         bar.there = False
         with redirect_stderr(said):
-            bar.show("trial 3: ")
+            bar.show("step 3: ")
             bar.said -= 3600
             bar.tell()
             bar.tell()
-        self.assertEqual(said.getvalue(), "0:00 trial 3: goes on\n")
+        self.assertEqual(said.getvalue(), "0:00 step 3: still running\n")
 
     def test_on_a_terminal(self) -> None:
         """What is done stands in one line, as wide as the terminal at most, until it is taken away."""
@@ -153,7 +153,7 @@ class Progress(unittest.TestCase):
             bar.show("trial 3", 3, 4)
             bar.said -= 9
             bar.tell()
-        self.assertEqual(said.getvalue(), "0:00 trial 3: 3 of 4\n0:00 trial 3: goes on\n")
+        self.assertEqual(said.getvalue(), "0:00 trial 3: 3 of 4\n0:00 trial 3: still running\n")
 
 
 if __name__ == "__main__":

@@ -7,8 +7,8 @@ from unittest import mock
 from reraid_try.calls import surveys
 from reraid_try.calls.surveys import Surveys
 from reraid_try.errors import OutsideError
-from reraid_try.evidence import gathered, hints
-from reraid_try.evidence.filling import Filling
+from reraid_try.evidence import gathered, hints, images
+from reraid_try.evidence.filling import Filling, Flags
 from reraid_try.evidence.gathered import Pairs
 from reraid_try.evidence.heads import Head
 from reraid_try.evidence.hints import Hint, Source, What
@@ -33,7 +33,7 @@ class Offsets(unittest.TestCase):
                        ("ext", [("ext", 2, 7426, "at:262144")]))
         found = hints.offsets(plan, [])
         self.assertEqual([(hint.value, hint.shown, hint.spread, hint.source) for hint in found], [(2048, 1, 2, Source.MARK)])
-        self.assertEqual(found[0].line(), "hint: offset 2048, from mark super of image 0 at sector 2048, less 0; on 1 image")
+        self.assertEqual(found[0].line(), "hint: data offset 2048 sectors, from landmark super on image 0: sector 2048 less 0; on 1 image")
 
     def test_those_that_more_images_show_come_first(self) -> None:
         plan = plan_of(("btrfs", [("btrfs", 0, 128, "at:128"), ("btrfs", 0, 4224, "at:128"), ("btrfs", 1, 128, "at:128")]),
@@ -51,7 +51,7 @@ class Offsets(unittest.TestCase):
         marks = [("super", k, 6144 + 49152 * k // 3, EVERY) for k in (1, 2, 3)]
         found = hints.placed_offsets(plan_of(("xfs", marks)), [3], [0], [])
         self.assertEqual((found[0].value, found[0].source), (6144, Source.PLACES))
-        self.assertIn("3 places of group 0 (xfs, 3 marks), for 3 data disks and chunks of", found[0].why)
+        self.assertIn("3 places of landmark group 0 (xfs, 3 landmarks), for 3 data disks and chunks of", found[0].why)
         self.assertEqual(hints.placed_offsets(plan_of(("xfs", marks)), [3], [0], [6144]), [])
         self.assertEqual(hints.placed_offsets(plan_of(("xfs", marks[:2])), [3], [0], []), [])
 
@@ -76,8 +76,8 @@ class Data(unittest.TestCase):
             return hints.level(plan_of(("xfs", [("super", it, 2048, EVERY) for it in images])), [])
         self.assertEqual([hint.value for hint in level(0) + level(0, 1) + level(0, 1, 2)], [0, 5, 6])
         self.assertEqual(level(0, 1, 2, 3) + hints.level(plan_of(), []), [])
-        self.assertIn("as two copies of RAID 10 do too", level(0, 1)[0].line())
-        self.assertIn("perhaps level 0, from a sector of one kind that 1 image shows at one place", level(2)[0].line())
+        self.assertIn("as also with two copies of RAID 10", level(0, 1)[0].line())
+        self.assertIn("perhaps RAID 0, from the same kind of sector at the same place on 1 image", level(2)[0].line())
         self.assertEqual(hints.level(plan_of(), [Head("mbr", 0, 5), Head("mbr", 1, 5)])[0].value, 5)
 
 
@@ -100,7 +100,7 @@ class OnImages(InFolder):
         found = hints.lvm_origins(plan_of(("lvm", [("lvm", 0, 1, "at:1")])), {0: image(0, name)})
         self.assertEqual([hint.value for hint in found], [2048, 2048 + 8 * 3, 2048 + 8 * 200, 2048 + 8 * 400])
         self.assertEqual([hint.why for hint in found[1:3]],
-                         ["the text of LVM2 on image 0", "the text of LVM2 on image 0, by a later segment of a volume"])
+                         ["the LVM2 metadata on image 0", "the LVM2 metadata on image 0, from a later segment of a volume"])
 
     def test_bcache(self) -> None:
         """The contents of a volume that is cached begin 16 sectors behind its start, or where the superblock says."""
@@ -111,7 +111,8 @@ class OnImages(InFolder):
             found = hints.bcache_origins([one])
             self.assertEqual([hint.value for hint in found], places)
             self.assertEqual([hint.line() for hint in found],
-                             [f"hint: origin {place}, from a superblock of bcache on image 0 at sector 24" for place in places])
+                             [f"hint: contents begin at volume sector {place}, from a superblock of bcache on image 0 at sector 24"
+                              for place in places])
         self.assertEqual(hints.bcache_origins([image(0, name, heads=(Head("bcache", 0, 20),))]), [])
 
     def test_tables(self) -> None:
@@ -157,6 +158,18 @@ class OnImages(InFolder):
         self.assertEqual(Filling([name], [0], 14, 60).behind(12), 2)
         self.assertEqual(Filling([name], [12], 40, 26).behind(12, 50), 4)
 
+    def test_flags_are_read_once(self) -> None:
+        """What a filling counts of large images is the same, and no part of an image is read twice."""
+        names = [self.file("a", bytes(10 * SECTOR) + b"x" * 5 * SECTOR + bytes(11 * SECTOR)), self.file("b", bytes(20 * SECTOR) + b"y" * 6 * SECTOR)]
+        flags = Flags()
+        told = Filling(names, [0, 12], 14, 26, flags)
+        plain = Filling(names, [0, 12], 14, 26)
+        self.assertEqual([told.behind(place) for place in (0, 5, 12, 19)], [plain.behind(place) for place in (0, 5, 12, 19)])
+        with mock.patch.object(images, "filled_of", side_effect=AssertionError):
+            self.assertEqual(Filling(names[1:], [12], 14, 26, flags).behind(12), 6)
+        with self.assertRaises(OutsideError):
+            Filling(["none"], [0], 14, 26, Flags())
+
 
 class Gathered(InFolder):
     def gather(self, text: str, pairs: Pairs | None = None, start: int = 0, **values: object) -> gathered.Evidence:
@@ -198,7 +211,8 @@ class Gathered(InFolder):
             found = self.gather(self.plan(), heads=(Head("bcache", 0, 4096),))
         self.assertEqual(found.base.get("origins"), "0,48,2048")
         self.assertIn(4096, found.tried)
-        self.assertIn("hint: origin 48, from a superblock of bcache on image 0 at sector 4104", [hint.line() for hint in found.said])
+        self.assertIn("hint: contents begin at volume sector 48, from a superblock of bcache on image 0 at sector 4104",
+                      [hint.line() for hint in found.said])
 
     def test_copies_say_no_level(self) -> None:
         self.assertEqual(self.gather(self.plan("super 0 2048 every:4096:2:0"), like=0).levels, ())

@@ -205,9 +205,26 @@ class InImages(InFolder):
         self.file("a.map", "0 +\n0x0 0x10 +\n")
         image = images.look(name, 2, MIB)
         self.assertEqual((image.sectors, image.rest, image.first, image.last, image.table.own), (200, 4, 0, 2, True))
-        self.assertEqual(image.line(), f"image 2 {name}: 200 sectors and 4 bytes, no whole sector, which are not looked at, data from sector 0 to 2, "
-                         f"its own GPT of 512 bytes with 40+60, its map is {self.folder}/a.map")
+        self.assertEqual(image.line(), f"image 2 {name}: 200 sectors and 4 bytes after the last whole sector, which are ignored, non-zero from "
+                                       f"sector 0 to 2, "
+                         f"its own GPT of 512 bytes with 40+60, mapfile {self.folder}/a.map")
         self.assertEqual(image.fields()["partitions"], [{"first": 40, "count": 60, "kind": "gpt"}])
+
+    def test_the_map_of_a_link(self) -> None:
+        """It lies beside the link, or else beside the file that the link leads to."""
+        os.mkdir(f"{self.folder}/real")
+        self.file("real/a.img", b"x" * SECTOR)
+        os.symlink("real/a.img", f"{self.folder}/link")
+        self.assertIsNone(images.map_beside(f"{self.folder}/link"))
+        for name in ("real/a.map", "link.map"):
+            self.file(name, "0 +\n0x0 0x10 +\n")
+            self.assertEqual(images.map_beside(f"{self.folder}/link"), f"{self.folder}/{name}")
+
+    def test_what_is_held(self) -> None:
+        """Holes of an image take no room."""
+        name = self.file("a", b"x" * 8192)
+        os.truncate(name, 64 * MIB)
+        self.assertTrue(8192 <= images.held(images.look(name, 0, MIB)) < MIB)
 
     def test_images_that_are_alike(self) -> None:
         one, other = self.file("a", b"x" * 5000), self.file("b", b"x" * 5000)
@@ -229,12 +246,8 @@ class InImages(InFolder):
 
     def test_an_image_without_a_sector(self) -> None:
         for data, said in ((b"", "0 bytes"), (b"x", "1 byte"), (bytes(511), "511 bytes")):
-            with self.assertRaisesRegex(OutsideError, f"^image 2 .* has no whole sector of 512 bytes, but {said}: leave it out$"):
+            with self.assertRaisesRegex(OutsideError, f"^image 2 .* has {said}, less than a sector of 512: leave it out$"):
                 images.look(self.file("a", data), 2, MIB)
-
-    def test_is_image(self) -> None:
-        self.assertTrue(images.is_image(self.file("a")))
-        self.assertFalse(images.is_image(self.folder) or images.is_image(f"{self.folder}/none") or images.is_image("/dev/null"))
 
     def test_filled(self) -> None:
         names = [self.file("a", bytes(SECTOR) + b"x" + bytes(3 * SECTOR)), self.file("b", bytes(4 * SECTOR) + b"y")]
@@ -274,7 +287,7 @@ class Maps(InFolder):
                            ("0 +\n# x\n0 0 +\n", "line 3"), ("0 +\n0 5\n", "line 2"), ("0 +\n0 5 +-\n", "line 2"), ("0 +\n0 5 + +\n", "line 2")):
             with self.assertRaisesRegex(OutsideError, line):
                 maps.read_map(self.file("a.map", text))
-        with self.assertRaisesRegex(OutsideError, "it is no text"):
+        with self.assertRaisesRegex(OutsideError, "it is not text"):
             maps.read_map(self.file("a.map", b"\xff\xfe"))
         with self.assertRaisesRegex(OutsideError, "cannot be read: Is a directory"):
             maps.read_map(self.folder)

@@ -12,7 +12,8 @@ from reraid_try.checks.volumes import Region, Room, Volume
 from reraid_try.evidence import labels
 from reraid_try.evidence.images import Image
 from reraid_try.evidence.tables import Partition, Table
-from reraid_try.report import table, words
+from reraid_try.report import table, typed, words
+from reraid_try.report.typed import Shown
 from reraid_try.units import ALL, MIB, SECTOR
 from tests.standin import InFolder, Standin, Told, put
 from tests.test_candidates import candidate, whole
@@ -140,41 +141,49 @@ class Looked(InFolder):
         other = self.file("d1.img", bytes(1000 + (32 + 24) * SECTOR) + b"y" * (400 * SECTOR))
         verdict, seen = self.looked(known(other))
         self.assertEqual([it.text() for it in verdict.findings],
-                         ["LVM2_member: pvck clean; its group is also on image 1 from sector 1 on",
-                          "logical volume data, in part on image 1 from sector 1 on: xfs: xfs_repair clean"])
+                         ["LVM2_member: pvck reports no errors; its volume group is also on image 1 from sector 1 on",
+                          "logical volume data, in part on image 1 from sector 1 on: xfs: xfs_repair reports no errors"])
         self.assertEqual((len(seen[0]), seen[0][799 * SECTOR:801 * SECTOR]), (1200 * SECTOR, b"x" * SECTOR + b"y" * SECTOR))
         self.assertEqual((verdict.findings[0].own, verdict.findings[0].beside, verdict.findings[0].apart), (OWN, (known(other),), ()))
-        self.assertEqual(words.mounts(verdict, "class0/volume", 2 * MIB, ["d0.img", "d 1.img"]),
-                         ["losetup -r -f --show class0/volume", f"losetup -r -f --show -o 1000 --sizelimit {10 * MIB} 'd 1.img'", "vgchange -ay",
-                          "mount -o ro,norecovery /dev/vg/data /mnt"])
+        found = typed.typed_of(typed.mounts(verdict, Shown("candidate0", "candidate0/volume", 2 * MIB), ["d0.img", "d 1.img"]))
+        self.assertEqual(found.lines, ("losetup -r -f --show candidate0/volume", f"losetup -r -f --show -o 1000 --sizelimit {10 * MIB} 'd 1.img'",
+                                       "vgchange -ay", "mount -o ro,norecovery /dev/vg/data /mnt"))
+        loops = ["$(losetup -n -O NAME -j candidate0/volume -o 0)", "$(losetup -n -O NAME -j 'd 1.img' -o 1000)"]
+        self.assertEqual(found.ends, ("umount /mnt", f"vgchange -an $(pvs --noheadings -o vg_name {loops[0]})", f"losetup -d {loops[1]}",
+                                      f"losetup -d {loops[0]}"))
         verdict, seen = self.looked(known(other), most=1199 * SECTOR)
-        self.assertEqual((verdict.findings[1].said, seen), ("no room to check it", []))
+        self.assertEqual((verdict.findings[1].said, seen), ("not enough space to check it", []))
 
     def test_lines_to_type(self) -> None:
         """A logical volume in one piece is mounted by its place, unless another one needs its group: then all are by their devices."""
         one = Finding("", "ext4", True, pieces=(Piece(MIB, MIB),), device="/dev/vg/one")
         two = Finding("", "xfs", True, pieces=(Piece(MIB, MIB), Piece(0, MIB, "x")), device="/dev/vg/two")
         pv = Finding("", "LVM2_member", pieces=(Piece(0, 4 * MIB),))
-        self.assertEqual(words.mounts(Verdict([pv, one]), "v", 4 * MIB), [f"mount -o ro,noload,loop,offset={MIB} v /mnt"])
-        self.assertEqual(words.mounts(Verdict([pv, one, two]), "v", 4 * MIB),
-                         ["losetup -r -f --show v", "vgchange -ay", "mount -o ro,noload /dev/vg/one /mnt", "mount -o ro,norecovery /dev/vg/two /mnt"])
+
+        def lines(*findings: Finding) -> list[str]:
+            return [line.text for line in typed.mounts(Verdict(list(findings)), Shown("c", "v", 4 * MIB))]
+        self.assertEqual(lines(pv, one), [f"mount -o ro,noload,loop,offset={MIB} v /mnt"])
+        self.assertEqual(lines(pv, one, two), ["losetup -r -f --show v", "vgchange -ay", "mkdir -p c.0 && mount -o ro,noload /dev/vg/one c.0",
+                                               "mkdir -p c.1 && mount -o ro,norecovery /dev/vg/two c.1"])
         other = Finding("", "ext4", True, pieces=(Piece(8 * MIB, MIB),))
-        self.assertEqual(words.mounts(Verdict([pv, other, two]), "v", 4 * MIB)[:3],
-                         [f"mount -o ro,noload,loop,offset={8 * MIB} v /mnt", "losetup -r -f --show v", "vgchange -ay"])
+        self.assertEqual(lines(pv, other, two)[:3],
+                         ["losetup -r -f --show v", "vgchange -ay", f"mkdir -p c.0 && mount -o ro,noload,loop,offset={8 * MIB} v c.0"])
 
     def test_where_the_other_one_is_not_there(self) -> None:
         """Which is told, also where it is in the volume of another class."""
         verdict, seen = self.looked()
         self.assertEqual([it.text() for it in verdict.findings],
-                         [f"LVM2_member: pvck clean; its group is also on another physical volume, {OTHER} /dev/md1; nothing known in it"])
+                         [f"LVM2_member: pvck reports no errors; its volume group is also on another physical volume, {OTHER} /dev/md1; nothing "
+                          f"recognized in it"])
         self.assertEqual((verdict.score, verdict.findings[0].apart, seen), (Score.NOTHING, (OTHER,), []))
         here, other = whole(), whole()
         here.findings.insert(0, Finding("", "LVM2_member", own=OWN, apart=(OTHER,)))
         other.findings.insert(0, Finding("", "LVM2_member", own=OTHER))
         order = [candidate(verdict=here), candidate("5:la:none:128:2048:0,1,2", other)]
         self.assertEqual(words.apart_lines(order[0], order),
-                         [f"  the physical volume {OTHER} of its group is in class 1: mount that too, and show it by losetup before vgchange"])
+                         [f"  the physical volume {OTHER} of its volume group is in candidate 1: mount that too, and attach it with losetup before "
+                          f"vgchange"])
         self.assertEqual((words.apart_lines(order[0], order[:1]), words.apart_lines(order[1], order)), ([], []))
         report = Told()
         table.show(report, order, [Image(name, number, 8000) for number, name in enumerate("abc")])
-        self.assertIn("is in class 1: mount that too", report.text)
+        self.assertIn("is in candidate 1: mount that too", report.text)

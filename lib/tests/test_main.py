@@ -6,6 +6,7 @@ import io
 import json
 import os
 import pathlib
+import re
 import signal
 import subprocess
 import sys
@@ -16,6 +17,7 @@ from unittest import mock
 from reraid_try import main, options, resuming
 from reraid_try.calls.commands import Commands, Runner
 from reraid_try.calls.memory import Memory, Remembering
+from reraid_try.checks import leftovers
 from reraid_try.checks.verdicts import Score
 from reraid_try.checks.volumes import Room
 from reraid_try.errors import OutsideError, Stopped
@@ -27,6 +29,11 @@ from tests.standin import InFolder, Told
 from tests.test_candidates import candidate, whole
 
 LINE = "reraid-try: "
+
+
+def unbroken(text: str) -> str:
+    """Join the lines that were broken at the width of the output; not those that are copied by hand."""
+    return re.sub(r"\n {2,3}(?=\S)", " ", text)
 
 
 class Fake:
@@ -47,6 +54,9 @@ class Fake:
     def say_reshapes(self) -> None:
         """Nothing was seen of a reshape."""
 
+    def say_answer(self) -> None:
+        """The images may be an array."""
+
     def best(self) -> Score:
         """How much speaks for the best candidate."""
         return self.found
@@ -59,7 +69,7 @@ class Runs(InFolder):
         super().setUp()
         self.images = [self.file(name, bytes(1024)) for name in ("a", "b")]
         os.chmod(self.file("reraid", "#!/bin/sh\nexit 1\n"), 0o755)
-        for number in (signal.SIGINT, signal.SIGTERM):
+        for number in main.ENDING:
             self.addCleanup(signal.signal, number, signal.getsignal(number))
         self.enterContext(mock.patch.dict(os.environ, PATH=f"{self.folder}:{os.environ['PATH']}"))
 
@@ -69,7 +79,7 @@ class Runs(InFolder):
         made = type("Made", (Fake,), {"happens": staticmethod(happens), "found": found})
         with contextlib.redirect_stdout(out), contextlib.redirect_stderr(error), mock.patch.object(main, "Search", made):
             try:
-                return main.main([*words, *self.images]), out.getvalue(), error.getvalue()
+                return main.main([*words, *self.images]), unbroken(out.getvalue()), error.getvalue()
             except SystemExit as end:
                 return end.code, out.getvalue(), error.getvalue()
 
@@ -93,19 +103,58 @@ class Statuses(Runs):
         for error, said in [(OutsideError("the log x cannot be written: why"), "the log x cannot be written: why"),
                             (OSError(errno.EIO, "Input/output error", "disk"), "disk: Input/output error"),
                             (OSError(errno.ENOSPC, "No space left on device"), "No space left on device"),
-                            (MemoryError(), "there is not enough memory")]:
+                            (MemoryError(), "out of memory; -j 1 needs less")]:
             status, _, line = self.run_with(happens=raising(error))
             self.assertEqual((status, line), (3, f"{LINE}{said}\n"))
 
     def test_interrupted(self) -> None:
         status, out, _ = self.run_with(happens=raising(Stopped()))
-        self.assertEqual((status, "interrupted before a volume was looked at" in out), (130, True))
+        self.assertEqual((status, "interrupted before any volume was checked" in out), (130, True))
         self.assertEqual(self.run_with(happens=raising(KeyboardInterrupt()))[0], 130)
 
     def test_a_signal_ends_it(self) -> None:
-        for number in (signal.SIGINT, signal.SIGTERM):
+        for number in (signal.SIGINT, signal.SIGTERM, signal.SIGHUP):
+            for ending in main.ENDING:
+                signal.signal(ending, signal.SIG_DFL)
             status, out, _ = self.run_with(happens=lambda number=number: signal.raise_signal(number))  # type: ignore[misc]
             self.assertEqual((status, "interrupted" in out), (130, True))
+
+    def test_a_run_under_nohup(self) -> None:
+        """Where SIGHUP is ignored from the start the run goes on."""
+        signal.signal(signal.SIGHUP, signal.SIG_IGN)
+        status, out, _ = self.run_with(happens=lambda: signal.raise_signal(signal.SIGHUP))
+        self.assertEqual((status, "interrupted" in out), (1, False))
+
+    def test_a_closed_terminal(self) -> None:
+        """What can no longer be printed ends nothing: the report is written, and all is closed."""
+        name = f"{self.folder}/page.html"
+        # The tests may run under nohup.
+        signal.signal(signal.SIGHUP, signal.SIG_DFL)
+
+        def closed() -> None:
+            self.enterContext(mock.patch.object(sys.stdout, "write", side_effect=OSError(errno.EIO, "Input/output error")))
+            signal.raise_signal(signal.SIGHUP)
+        status, _, _ = self.run_with("--report", name, happens=closed)
+        with open(name, encoding="utf-8") as file:
+            self.assertEqual((status, "it was interrupted" in file.read()), (130, True))
+
+    def test_clean(self) -> None:
+        """What killed runs left is removed in place of a search; no image is named for that."""
+        old = f"{self.folder}/reraid-try.old"
+        os.mkdir(old)
+        os.utime(old, (1, 1))
+        images, self.images = self.images, []
+        for said in (f"removed {old}\n", f"no killed run left anything in {self.folder}\n"):
+            self.assertEqual(self.run_with("--clean", "--room", self.folder)[:2], (0, said))
+        self.assertEqual(self.run_with()[0], 2)
+        os.mkdir(old)
+        os.utime(old, (1, 1))
+        with mock.patch.object(leftovers, "remove", return_value=False):
+            status, _, line = self.run_with("--clean", "--room", self.folder)
+        self.assertEqual((status, f"{old} could not be removed" in line), (3, True))
+        status, out, _ = self.run_with("--room", self.folder, *images)
+        self.assertEqual((status, f"{old}. To remove it:\n    reraid-try --clean --room {self.folder}" in out), (1, True))
+        self.assertEqual(self.run_with("--clean", *images)[0], 2)
 
     def test_nobody_reads_what_is_printed(self) -> None:
         with mock.patch.object(os, "dup2") as again, mock.patch.object(sys, "stdout", mock.Mock(fileno=lambda: 1)):
@@ -165,13 +214,13 @@ class Ends(Runs):
         for error, found, ending in ((None, Score.NOTHING, mock.call(mock.ANY, 1)), (None, Score.WHOLE, mock.call(mock.ANY, 0)),
                                      (Stopped(), Score.WHOLE, mock.call(mock.ANY, 130, ended=True))):
             casefile = self.ended(error=error, found=found)[1]["Casefile"].return_value
-            casefile.begin.assert_called_once_with(tuple(self.images))
+            casefile.begin.assert_called_once_with(tuple(self.images), ())
             self.assertEqual(casefile.end.call_args, ending)
 
     def test_interrupted_before_the_search(self) -> None:
         with mock.patch.object(main, "with_containers", side_effect=Stopped()):
             status, out, _ = self.run_with()
-        self.assertEqual((status, "interrupted before a volume was looked at" in out), (130, True))
+        self.assertEqual((status, "interrupted before any volume was checked" in out), (130, True))
 
     def test_what_an_interrupted_run_says(self) -> None:
         """Whether something was good until then; those alone are printed whose volumes were looked at."""
@@ -190,7 +239,7 @@ class Ends(Runs):
         search.memory = mock.Mock(runs=[])
         search.memory.name = "kept"
         main.searched(search, report, casefile)
-        self.assertIn("the same words go on with it", report.record.last("kept")["text"])
+        self.assertIn("To continue, repeat the command", report.record.last("kept")["text"])
 
     def test_who_runs_the_commands_of_a_search(self) -> None:
         """With a memory what was answered before is not asked again; images in containers are known by their names."""
@@ -207,7 +256,7 @@ class Ends(Runs):
         with mock.patch.object(Bar, "watch") as watch:
             _, out, _ = self.run_with()
         watch.assert_called_once_with()
-        self.assertIn("c.vmdk: its name says VMDK, and its bytes do not: it is read as a raw image\n", out)
+        self.assertIn("c.vmdk: its contents are not VMDK, as its name suggests; it is read as a raw image\n", out)
 
     def test_a_second_signal_is_ignored(self) -> None:
         """The first one ends the commands and then the run, which prints its table in peace."""
@@ -243,12 +292,12 @@ class Files(Runs):
     def test_log(self) -> None:
         name = os.path.join(self.folder, "log")
         status, out, _ = self.run_with("--log", name)
-        self.assertEqual((status, "the log goes on behind them" in out), (1, False))
+        self.assertEqual((status, "the log is appended" in out), (1, False))
         status, out, _ = self.run_with("--log", name)
         with open(name, encoding="utf-8") as file:
             lines = file.read().splitlines()
         self.assertEqual((status, len(lines), all("reraid-try --log" in line for line in lines)), (1, 2, True))
-        self.assertIn("the log goes on behind them", out)
+        self.assertIn("the log is appended", out)
 
     def test_files_that_cannot_be_written(self) -> None:
         nowhere = os.path.join(self.folder, "no", "file")
@@ -259,9 +308,9 @@ class Files(Runs):
     def test_resume(self) -> None:
         name = os.path.join(self.folder, "kept")
         status, out, _ = self.run_with("--resume", name, happens=raising(Stopped()))
-        self.assertEqual((status, "kept is new" in out, "the same words go on with it" in out, "taken over" in out), (130, True, True, False))
+        self.assertEqual((status, "kept is new" in out, "To continue, repeat the command" in out, "reused" in out), (130, True, True, False))
         status, out, _ = self.run_with("--resume", name)
-        self.assertEqual((status, "of 1 run over these images" in out, "taken over from" in out), (1, True, True))
+        self.assertEqual((status, "from 1 run over these images" in out, "reused from" in out), (1, True, True))
         with open(name, "rb") as file:
             before = file.read()
         self.images.reverse()
@@ -276,9 +325,20 @@ class Files(Runs):
         self.assertEqual((status, os.path.exists(name)), (3, False))
         self.file("page.html", "mine")
         status, _, line = self.run_with("--report", name)
-        self.assertEqual((status, "is there already" in line), (2, True))
+        self.assertEqual((status, "exists already: name another file" in line), (2, True))
         with open(name, encoding="utf-8") as file:
             self.assertEqual(file.read(), "mine")
+
+    def test_report_of_a_run_that_goes_on(self) -> None:
+        """The same words go on with --resume, and the report of the run that was ended is replaced."""
+        words = ["--resume", f"{self.folder}/kept", "--report", f"{self.folder}/page.html"]
+        pages = []
+        for happens, ended in ((raising(Stopped()), 130), (lambda: None, 1)):
+            status, _, _ = self.run_with(*words, happens=happens)
+            with open(words[3], encoding="utf-8") as file:
+                pages.append(file.read())
+            self.assertEqual(status, ended)
+        self.assertEqual(["it was interrupted" in it for it in pages], [True, False])
 
     def test_images_in_containers_that_are_not_opened(self) -> None:
         self.images.append(self.file("c.L01", b"LVF\x09\x0d\x0a\xff\x00"))
@@ -290,21 +350,33 @@ class Files(Runs):
 class Words(Runs):
     def test_words_that_are_wrong(self) -> None:
         nothing = os.path.join(self.folder, "nothing")
-        for words, said in [(["--members", "x"], "members are numbers"), (["--members", "1"], "members are 2 to 24"),
-                            (["--members", "25"], "members are 2 to 24"), (["--levels", "1"], "levels are of"), (["--time", "0"], "not above 0"),
-                            (["--every", "0"], "not above 0"),
-                            (["--first", "5"], "less than 1M"), (["--first", "xG"], "a size is a number"), (["-j", "-1"], "not above 0"),
-                            (["--room", nothing], "is no folder"), ([nothing], "is no file and no block device"),
-                            ([self.folder], "is no file and no block device"), (["--no-such-word"], "unrecognized"),
-                            ([self.images[0]] * 23, "more than 24 images")]:
+        for words, said in [(["--members", "x"], "give numbers of disks, separated"), (["--members", "1"], "disks from 2 to 24"),
+                            (["--members", "25"], "disks from 2 to 24"), (["--levels", "1"], "give levels out of"), (["--time", "0"], "above 0"),
+                            (["--every", "0"], "above 0"),
+                            (["--first", "5"], "give at least 1M"), (["--first", "xG"], "give a size in bytes"), (["-j", "-1"], "above 0"),
+                            (["--room", nothing], "this is not a folder"), ([nothing], f"{nothing}: No such file"),
+                            ([self.folder], f"{self.folder} is a folder: give the images in it, such as {self.folder}/*"),
+                            ([self.file("empty")], "empty is empty: leave it out"), ([self.images[0]], f"{self.images[0]} is given twice"),
+                            (["--no-such-word"], "unrecognized"),
+                            ([self.file(f"i{number}", "x") for number in range(23)], "25 images: at most 24")]:
             status, _, line = self.run_with(*words)
             self.assertEqual((status, said in line), (2, True), (words, line))
+
+    def test_help(self) -> None:
+        """It is reached by each of the words that people try, alone; an image of that name is an image."""
+        images, self.images = self.images, []
+        for word in ("help", "-h", "--help"):
+            status, out, _ = self.run_with(word)
+            self.assertEqual((status, out.startswith("usage: ")), (0, True))
+        self.images = images
+        status, _, line = self.run_with("help")
+        self.assertEqual((status, "help: No such file" in line), (2, True))
 
     def test_no_program(self) -> None:
         os.remove(os.path.join(self.folder, "reraid"))
         with mock.patch.dict(os.environ, PATH=self.folder):
             status, _, line = self.run_with()
-        self.assertEqual((status, "there is no reraid" in line), (2, True))
+        self.assertEqual((status, "reraid is not on the PATH" in line), (2, True))
 
     def test_words_that_are_right(self) -> None:
         it = options.read_words(["--json", "--members", "4,5", "--levels", "5,6", "--first", "3g", "--time", "7", "-j", "2", "--hash",

@@ -20,7 +20,7 @@ from reraid_try.evidence.images import Image
 from reraid_try.evidence.maps import Map
 from reraid_try.options import Options
 from reraid_try.policy.hunt import Hunt
-from reraid_try.report import words
+from reraid_try.report import typed, words
 from tests.standin import InFolder, Standin, Told, put
 from tests.test_candidates import candidate, hunt_of, whole
 
@@ -69,33 +69,42 @@ class Named(unittest.TestCase):
     def test_what_to_type(self) -> None:
         """The line to type names the same images, and says why they have other numbers."""
         it = candidate("5:ls:none:128:2048:3,0,2", whole())
-        for lengths, typed, told in (((9000, 700, 9100, 9200), "reraid-mount 5:ls:none:128:2048:2,0,1 class4 i0 i2 i3", True),
-                                     ((9000, 9001, 9100, 9200), "reraid-mount 5:ls:none:128:2048:3,0,2 class4 i0 i1 i2 i3", False)):
+        lines = ("reraid-mount 5:ls:none:128:2048:2,0,1 candidate4 i0 i2 i3", "reraid-mount 5:ls:none:128:2048:3,0,2 candidate4 i0 i1 i2 i3")
+        for lengths, line, told in (((9000, 700, 9100, 9200), lines[0], True), ((9000, 9001, 9100, 9200), lines[1], False)):
             seen, report = images(*lengths), Told()
             words.say_class(report, 4, it, seen)
-            self.assertIn(f"    {typed}", report.text.splitlines())
+            self.assertIn(f"    {line}", report.text.splitlines())
             self.assertEqual(f"  {words.ALONE}" in report.text.splitlines(), told)
-            self.assertIn("in no slot: i1", report.text)
+            self.assertIn("unused images: i1", report.text)
 
     def test_what_to_type_where_texts_count_as_unread(self) -> None:
         """The maps are typed too, those beside the images without their comments, unless they are long, or the set has copies."""
         it, seen = candidate("5:ls:none:128:2048:2,0,1", whole()), images(9000, 9000, 9000)
         beside = Map("m", "# comment 100%\n0x0 +\n0x0 0x400 +\n", ((0, 1024, "+"),))
         seen[0], seen[2] = dataclasses.replace(seen[0], fill=Map("", "", ((0, 512, "+"), (512, 512, "-")))), dataclasses.replace(seen[2], map=beside)
-        server = "nbdfuse -r class4/volume --command reraid-nbd set=5:ls:none:128:2048:2,0,1 maps=class4.maps -- i0 i1 i2 &"
-        self.assertEqual(words.commands(4, it, seen)[:3],
-                         ["printf 'map 0\\n0 +\\n0 512 +\\n512 512 -\\nmap 2\\n0 +\\n0 1024 +\\n' > class4.maps", "mkdir class4", server])
-        self.assertEqual(words.of_maps(it.word, seen, True), ["  (what counts as unread is found by parity there, and what is lost cannot be read)"])
+        maps = "printf 'map 0\\n0 +\\n0 512 +\\n512 512 -\\nmap 2\\n0 +\\n0 1024 +\\n' > candidate4.maps"
+        self.assertEqual(typed.commands(4, it, seen).lines[:2],
+                         (maps, "reraid-mount --maps candidate4.maps 5:ls:none:128:2048:2,0,1 candidate4 i0 i1 i2"))
+        self.assertEqual(typed.commands(4, it, seen).ends[-2:], ("umount candidate4", "rm candidate4.maps"))
+        said = "(what counts as unread is computed from parity if the other images have their part of it; what is lost cannot be read)"
+        self.assertEqual(typed.of_maps(it.word, seen, True), [f"  {said}"])
         report = Told()
         words.say_class(report, 4, it, seen)
-        self.assertEqual(report.text.splitlines()[-1], words.of_maps(it.word, seen, True)[0])
+        self.assertEqual(report.text.splitlines()[-1], typed.of_maps(it.word, seen, True)[0])
         for other, changed in ((it, [dataclasses.replace(seen[0], map=beside), *seen[1:]]), (candidate("5:ls:none:128:2048:2,-,1", whole()), seen),
-                               (it, [dataclasses.replace(seen[0], fill=Map("", "", ((0, 512, "-"),) * 500)), *seen[1:]]),
-                               (candidate("near2:128:2048:0,1,2,-", whole()), seen)):
-            self.assertEqual(words.commands(4, other, changed)[0].split()[0], "reraid-mount", other.word)
-        self.assertIn("which --json prints of each", words.of_maps(it.word, seen)[0])
-        self.assertEqual(words.of_maps(read_word("near2:128:2048:0,1"), seen[:2]), ["  (this shows what an image has where it counts as unread)"])
-        self.assertEqual(words.of_maps(it.word, seen[1:2]), [])
+                               (it, [dataclasses.replace(seen[0], fill=Map("", "", ((0, 512, "-"),) * 500)), *seen[1:]])):
+            self.assertEqual(typed.commands(4, other, changed).lines[0].split()[:2], ["reraid-mount", other.word.text])
+        self.assertIn("--json prints those of texts", typed.of_maps(it.word, seen)[0])
+        self.assertEqual(typed.of_maps(it.word, seen[1:2]), [])
+
+    def test_what_a_mount_shows_of_what_counts_as_unread(self) -> None:
+        """It is found by parity only if parity is left, and of copies in another one."""
+        damaged = [dataclasses.replace(image, map=Map("m", "", ())) for image in images(9000, 9000)]
+        for text, said in (("5:ls:none:128:2048:0,1,2", "computed from parity"), ("5:ls:none:128:2048:0,1,-", "no parity is left"),
+                           ("6:ls:by-data:128:2048:0,1,-,2", "computed from parity"), ("6:ls:by-data:128:2048:0,-,-,1", "no parity is left"),
+                           ("0:plain:none:128:2048:0,1", "no parity is left"), ("near2:128:2048:0,1", "from another copy")):
+            told = typed.of_maps(read_word(text), damaged)
+            self.assertEqual((len(told), said in told[0]), (1, True), (text, told))
 
 
 class Read(InFolder):
@@ -163,7 +172,7 @@ class Numbers(InFolder):
         self.addCleanup(room.close)
         tests = Tests(Options(("a",), jobs=1), standin, report, room, images(*[8000] * 7))
         places, = tests.left_out(it)
-        self.assertEqual((places, report.lines), (frozenset({2}), ["  6:la:by-data:8:0:1,3,4,6: 9 rows are unsound, 9 by image 4"]))
+        self.assertEqual((places, report.lines), (frozenset({2}), ["  6:la:by-data:8:0:1,3,4,6: 9 rows inconsistent, 9 because of image 4"]))
         lesser = damage.lesser(it, places)
         self.assertEqual((lesser.word.text, lesser.listed and lesser.listed.text, lesser.trial.loosened),
                          ("6:la:by-data:8:0:1,3,-,6", "6:la:by-data:8:0:0,1,-,3", ["without image 4"]))
@@ -179,7 +188,7 @@ class Numbers(InFolder):
             return put(f"unsound {min(3, rows // 2000) if '0,3,1,2' in answered[2] else 900} of {rows}\nfail\n")
         it = self.found("6:ls:by-data:128:2048:0,-,1,2", ("reraid check", told))
         found, = Rows(it.hunt).old(it)
-        self.assertEqual((found.image, found.slot, found.text("abcdefg")[:40]), (6, 1, "g is old or damaged from row 1999 on: as"))
+        self.assertEqual((found.image, found.slot, found.text("abcdefg")[:40]), (6, 1, "g is old or damaged from row 1999 on, or"))
 
     def stale(self, unsound: Sequence[int], rows: int = 1000) -> tuple[list[str], list[tuple[list[str], str]]]:
         """What is said of image 5 of the heap, which is none of the hunt's and which ties name as old, where so many of the rows are unsound with it
@@ -196,11 +205,13 @@ class Numbers(InFolder):
         """It is asked of beside the images of the hunt, in each empty slot, and named with the slot and the row from which on it is old; also where
         most rows are unsound, and not where nearly all are, or none."""
         said, asked = self.stale((800, 950))
-        self.assertEqual(said, ["f is old or damaged from row 200 on: as slot 1 parity holds with it in all rows but 800 of 1000"])
+        self.assertEqual(said, ["f is old or damaged from row 200 on, or from another array. In slot 1, parity is consistent with it in all but 800 "
+                                "of 1000 rows"])
         self.assertEqual(asked[0][0][2:], ["set=6:ls:by-data:128:2048:0,4,1,2,-", "--", "i0", "i1", "i2", "i3", "i5"])
         self.assertIn("length 100000\nlength 7000\nend 7000\n", asked[0][1])
         said, _ = self.stale((880, 300))
-        self.assertEqual(said, ["f is old or damaged from row 700 on: as slot 4 parity holds with it in all rows but 300 of 1000"])
+        self.assertEqual(said, ["f is old or damaged from row 700 on, or from another array. In slot 4, parity is consistent with it in all but 300 "
+                                "of 1000 rows"])
         self.assertEqual([self.stale((bad, 1000))[0] for bad in (900, 0)], [[], []])
 
 

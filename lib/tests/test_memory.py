@@ -191,7 +191,7 @@ class Files(Kept):
 
 
 class Volumes(Kept):
-    found = Verdict([Finding("", "gpt", table=True), Finding("at 2048", "xfs", True, "xfs_repair clean", (Piece(0, 5), Piece(9, 3)), 7)],
+    found = Verdict([Finding("", "gpt", table=True), Finding("at 2048", "xfs", True, "xfs_repair reports no errors", (Piece(0, 5), Piece(9, 3)), 7)],
                     Wholes(64, 60, 900_000, True, Wholes(2, 1, 5, joined=3)), ["a note"], 4096, 512, 1024, False, True)
 
     def test_a_verdict_comes_back(self) -> None:
@@ -250,10 +250,10 @@ class Begun(InFolder):
         memory.look({})
         resuming.end(memory, report)
         memory.close()
-        self.assertRegex(report.text, "kept is new: what reraid answers, .*\n"
-                         ".*kept keeps what was answered until then: the same words go on with it\n"
-                         ".*kept has 0 answers of reraid and 1 volume that was looked at, of 1 run over these images, the last begun .*\n"
-                         "taken over from .*kept: 0 answers of reraid, and what was found in 1 volume$")
+        self.assertRegex(report.text, "kept is new, and will keep all answers.*\n"
+                         ".*kept keeps the answers so far. To continue, repeat the command\n"
+                         ".*kept has 0 answers of reraid and 1 checked volume, from 1 run over these images, the last begun .*\n"
+                         "reused from .*kept: 0 answers of reraid and 1 checked volume$")
         resuming.end(None, report, ended=True)
         self.assertIsNone(resuming.begin(Options(options.images), [], report))
 

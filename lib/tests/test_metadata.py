@@ -180,8 +180,8 @@ class Examined(unittest.TestCase):
         """What is said names who says it."""
         told = metadata.read_examined(MD_1, 4)
         assert told
-        self.assertEqual(told.line("image 4"), "metadata on image 4 say (md 1.2): raid6 of 6 disks, left-symmetric, chunks of 128 KiB, slot 2, "
-                                               "data from sector 2048, 17 events")
+        self.assertEqual(told.line("image 4"), "metadata on image 4 (md 1.2): raid6 of 6 disks, left-symmetric, chunks of 128 KiB, slot 2, "
+                                               "data offset 2048 sectors, 17 events")
 
 
 class Sets(unittest.TestCase):
@@ -281,8 +281,8 @@ class Lvm(unittest.TestCase):
             self.assertEqual(metadata.lvm_starts({0: 1}, names), {0: (2049, 2049 + 4 * 8192)})
         self.assertEqual(metadata.segments_of(""), [])
         self.assertEqual(metadata.segments_of(LVM_TEXT.replace('"pv1", 4', '"pv1", x')), [])
-        self.assertEqual(metadata.starts_line("image 1", (8,)), "metadata on image 1 say (LVM2): parts of volumes begin at sector 8")
-        self.assertEqual(metadata.starts_line("image 1", (8, 16)), "metadata on image 1 say (LVM2): parts of volumes begin at sectors 8, 16")
+        self.assertEqual(metadata.starts_line("image 1", (8,)), "metadata on image 1 (LVM2): parts of volumes begin at sector 8")
+        self.assertEqual(metadata.starts_line("image 1", (8, 16)), "metadata on image 1 (LVM2): parts of volumes begin at sectors 8, 16")
 
     def test_damaged(self) -> None:
         """A text that is torn tells nothing and ends nothing."""

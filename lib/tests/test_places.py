@@ -38,6 +38,16 @@ class Best(unittest.TestCase):
         self.assertEqual(list(found[0].words("5", {0: 0, 1: 1, 2: 2, 3: 3})), ["5:ls:none:16:64:1,-,3,0,2", "5:la:none:16:64:1,-,3,0,2"])
         self.assertEqual(list(found[0].words("5", {0: 3, 1: 2, 2: 1, 3: 0}, (8, 9, 8, 9)))[0], "5:ls:none:16:8+9+8+9:2,-,0,3,1")
 
+    def test_data_that_repeat(self) -> None:
+        """In rows of one pattern on four data disks parity is zeros. That says nothing of where parity lies."""
+        whole = rows.striped(self.rnd, 5, 5, 800, chunk=16, sparse=0.6)
+        for number, row in enumerate(whole[:400]):
+            pattern = b"#" * len(row[0])
+            row[:] = [bytes(len(pattern)) if slot == (4 - number // 16) % 5 else pattern for slot in range(5)]
+        it = told(whole, "5", 5)
+        self.assertFalse(any(seen.sector < 64 + 400 for seen in it.seen))
+        self.assertIn(("ls", 16, (0, 1, 2, 3, 4), 0), {(one.turn.patterns[0][0], one.chunk, one.slots, one.against) for one in it.best([64])})
+
     def test_parity_that_stays(self) -> None:
         """The turns of a chunk are those of one that is shorter, whose parity stays for as many rows more."""
         whole = rows.striped(self.rnd, 5, 5, 3200, chunk=32, sparse=0.6)
@@ -139,8 +149,10 @@ class Allowed(unittest.TestCase):
 
     def test_hardly_more_than_the_best(self) -> None:
         """A set against which a tenth of the rows speaks is left out beside one against which none does, and stays by itself."""
-        made_rows = [[rows.sector(random.Random(k)), bytes(rows.COLUMNS), *([rows.sector(random.Random(k))] * 2)] if k % 10 else
-                     [bytes(rows.COLUMNS), *([rows.sector(random.Random(k))] * 3)] for k in range(1, 401)]
+        pairs = [(rows.sector(random.Random(k)), rows.sector(random.Random(1000 + k))) for k in range(1, 401)]
+        sums = [bytes(a ^ b for a, b in zip(*pair)) for pair in pairs]
+        made_rows = [[one, bytes(rows.COLUMNS), other, both] if k % 10 else [bytes(rows.COLUMNS), one, other, both]
+                     for k, ((one, other), both) in enumerate(zip(pairs, sums), 1)]
         it = told(made_rows, "5", 4)
         words = [made_word(slots, "parity-last") for slots in ((0, 1, 2, 3), (2, 1, 3, 0))]
         self.assertEqual([it.against(word) for word in words], [0, Fraction(1, 10)])

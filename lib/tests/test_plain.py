@@ -86,7 +86,7 @@ class Aims(unittest.TestCase):
         """Copies are searched as RAID 10 of all images, and not where that is not asked for."""
         told = Told((Known(Family((0, 2), 500, 8, 900, "10", 0, copies=((0, 2),))),), (1,), True)
         aim, = plain.copied(told, range(3), SPAN, ALL)
-        self.assertEqual((aim.images, aim.copied, aim.shapes, aim.why), ((0, 1, 2), True, (), "images 0 and 2 hold the same"))
+        self.assertEqual((aim.images, aim.copied, aim.shapes, aim.why), ((0, 1, 2), True, (), "images 0 and 2 hold the same data"))
         self.assertEqual(plain.copied(told, range(3), SPAN, Options(("a",), levels=("5",))), [])
         self.assertEqual(plain.perhaps_copied(told, range(3), SPAN, ALL), [])
         self.assertEqual(plain.tied(told, range(3), SPAN, ALL), [])
@@ -100,7 +100,7 @@ class Aims(unittest.TestCase):
         found = plain.without_each([all_of], [1, 3])
         self.assertEqual([(aim.images, aim.missing) for aim in found],
                          [((0, 1, 2, 3), (0, 1)), ((0, 2, 3), (0, 1)), ((0, 1, 2), (0, 1)), ((0, 1, 2, 3), (2, 3))])
-        left_out = [f"images 0 and 2 hold the same; image {image} may be foreign or a bad copy, so it is left out" for image in (1, 3)]
+        left_out = [f"images 0 and 2 hold the same data; image {image} may be no member or a bad copy, so it is left out" for image in (1, 3)]
         self.assertEqual([aim.why for aim in found], [all_of.why, *left_out, all_of.why])
         self.assertTrue(all(aim.copied for aim in found))
 
@@ -116,12 +116,12 @@ class Aims(unittest.TestCase):
         aim, later = plain.perhaps_copied(told, range(3), SPAN, ALL)
         self.assertEqual((aim.missing, later), ((0, 1), dataclasses.replace(aim, missing=(2, 3))))
         self.assertEqual((aim.images, aim.copied, aim.shapes), ((0, 1, 2), True, ()))
-        self.assertEqual(aim.why, "images 0, 2 hold the same in 500 rows of those that were looked at: copies, or level 5 whose third disk is lost "
-                         "and zeros there")
+        self.assertEqual(aim.why, "images 0, 2 hold the same data in 500 rows of those sampled: copies, or RAID 5 whose third disk is missing "
+                         "and held zeros there")
         tied, = plain.tied(told, range(3), SPAN, ALL)
         self.assertEqual(tied.shapes, (Shape("5", 3, 1),))
-        self.assertEqual(tied.why, "images 0, 2: hold the same in 500 rows of those that were looked at, as level 5 does where its third disk is lost"
-                         " and was zeros there")
+        self.assertEqual(tied.why, "images 0, 2: hold the same data in 500 rows of those sampled, as RAID 5 does if its third disk is missing and "
+                                   "held zeros there")
         self.assertEqual(plain.copied(told, range(3), SPAN, ALL), [])
         three = Told((Known(Family((0, 1, 2), 500, 8, 900, "5", 0)),), (), True)
         self.assertEqual(plain.perhaps_copied(three, range(3), SPAN, ALL), [])
@@ -139,9 +139,10 @@ class Aims(unittest.TestCase):
             self.assertEqual(plain.untied(told, range(3), SPAN, ALL), [] if told.known or not shapes else [aim])
 
     def test_apart(self) -> None:
-        """Copies at a distance are one reason for it; files that are stored twice are another, and the line says so."""
-        self.assertEqual(plain.apart_aim(4096, range(3), SPAN).why, "the images hold the same 4096 sectors apart, as RAID 10 with copies of layout "
-                         "offset does, and as any array may in which the same files are stored twice, or whose data begin at unlike sectors")
+        """The line says why copies are looked for, and which."""
+        self.assertEqual([plain.apart_aim(distance, range(3), SPAN).why for distance in (4096, 4098)],
+                         [f"much of the data is on another image too, {distance} sectors apart, as in RAID 10 of layout "
+                          f"{layout}" for distance, layout in ((4096, "offset"), (4098, "far"))])
 
     def test_unlike(self) -> None:
         """Images whose data begin at unlike sectors are asked for with an offset for each."""
@@ -155,7 +156,7 @@ class Aims(unittest.TestCase):
         aim, = plain.guessed_aims((64, 16, 16), range(3), SPAN, ALL)
         self.assertEqual(dict(aim.asked) | {"window": ""}, {"mode": "each", "offsets": "16,64", "window": ""})
         self.assertEqual((aim.images, aim.shapes, aim.tied, aim.moved), ((0, 1, 2), (Shape("5", 4, 1), Shape("6", 5, 2)), False, ()))
-        self.assertEqual(aim.why, "the images hold the same as far apart as if their data began at these sectors: 64, 16, 16")
+        self.assertEqual(aim.why, "the distances between equal data on the images suggest that their data begin at sectors 64, 16, 16")
         self.assertEqual(plain.guessed_aims((64, 16, 16), range(3), SPAN, Options(("a",), levels=("0", "10"))), [])
 
     def test_metadata(self) -> None:

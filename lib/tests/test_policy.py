@@ -69,7 +69,7 @@ class OfShapes(unittest.TestCase):
         return Shapes(known, dataclasses.replace(OPTIONS, **values))
 
     def test_line_and_what_parity_tells(self) -> None:
-        self.assertEqual(Shape("5,6", 5, 1, 2).line(), "levels 5,6, 5 members, 1 missing, 2 foreign")
+        self.assertEqual(Shape("5,6", 5, 1, 2).line(), "RAID 5 or 6 of 5 disks, 1 missing, 2 images left out")
         self.assertEqual([Shape("0,5,6,10", 4, missing).telling for missing in (0, 1, 2)], ["5,6", "6", ""])
         self.assertEqual([Shape("6", 4, missing).parity for missing in (1, 2)], [True, False])
 
@@ -113,9 +113,10 @@ class OfCures(unittest.TestCase):
 
     def test_order(self) -> None:
         names = [cure.name for cure in cures.in_order(self.plan, self.asked)]
-        self.assertEqual(names, ["half the window", "an end before a superblock", "file records of number 0 left out",
-                                 "without group 1 (ext, 1 mark)", "without group 0 (xfs, 2 marks)", "without group 2 (ntfs, 3 marks)",
-                                 "group 2 (ntfs, 3 marks) alone", "group 0 (xfs, 2 marks) alone", "8 misfits", "delays 16", "badrows 256",
+        self.assertEqual(names, ["half the test range", "end before a superblock", "file records of number 0 left out",
+                                 "without landmark group 1 (ext, 1 landmark)", "without landmark group 0 (xfs, 2 landmarks)",
+                                 "without landmark group 2 (ntfs, 3 landmarks)", "only landmark group 2 (ntfs, 3 landmarks)",
+                                 "only landmark group 0 (xfs, 2 landmarks)", "8 mismatches", "delays 16", "badrows 256",
                                  "more offsets", "more origins", "offsets 0,2048, each image its own"])
 
     def test_what_one_image_alone_shows(self) -> None:
@@ -138,7 +139,7 @@ class OfCures(unittest.TestCase):
 
     def test_what_one_image_shows(self) -> None:
         found = list(cures.image_cures(self.plan))
-        self.assertEqual([(cure.name, cure.out, cure.number) for cure in found], [("without what image 2 alone shows", frozenset({1}), 2)])
+        self.assertEqual([(cure.name, cure.out, cure.number) for cure in found], [("without what only image 2 shows", frozenset({1}), 2)])
         foreign = dataclasses.replace(self.asked, foreign=True)
         self.assertEqual(cures.in_order(self.plan, foreign)[0].family, Family.IMAGE)
 
@@ -170,9 +171,10 @@ class OfCures(unittest.TestCase):
 
         def go(*names: str) -> bool:
             return cures.go_together([next(cure for name, cure in found.items() if name.startswith(begin)) for begin in names])
-        self.assertTrue(go("without group 1", "without group 0") and go("half", "8 misfits") and go("half", "an end") and go("an end", "delays"))
-        for one, other in (("file records", "8 misfits"), ("without group 1", "group 2"), ("badrows", "half"), ("badrows", "an end"),
-                           ("badrows", "offsets 0"), ("delays", "offsets 0"), ("more offsets", "offsets 0"), ("group 2", "group 0")):
+        out, only = "without landmark group", "only landmark group"
+        self.assertTrue(go(f"{out} 1", f"{out} 0") and go("half", "8 mismatches") and go("half", "end") and go("end", "delays"))
+        for one, other in (("file records", "8 mismatches"), (f"{out} 1", f"{only} 2"), ("badrows", "half"), ("badrows", "end"),
+                           ("badrows", "offsets 0"), ("delays", "offsets 0"), ("more offsets", "offsets 0"), (f"{only} 2", f"{only} 0")):
             self.assertFalse(go(one, other), (one, other))
 
     def test_choices(self) -> None:
@@ -189,9 +191,9 @@ class OfCures(unittest.TestCase):
     def test_trial(self) -> None:
         plan = plan_of(XFS, EXT)
         trial = Trial(Shape("5", 3), (cures.group_cures(plan, True)[1], cures.misfits()), BASE.having(misfits=8))
-        self.assertEqual(trial.line(), "levels 5, 3 members: without group 0 (xfs, 2 marks) and 8 misfits")
+        self.assertEqual(trial.line(), "RAID 5 of 3 disks; relaxed: without landmark group 0 (xfs, 2 landmarks) and 8 mismatches")
         self.assertEqual((trial.out, trial.lenient, trial.has_bad_rows, trial.is_bare), (frozenset({0}), True, False, False))
-        self.assertEqual(Trial(Shape("5", 3)).line(), "levels 5, 3 members: nothing loosened")
+        self.assertEqual(Trial(Shape("5", 3)).line(), "RAID 5 of 3 disks; relaxed: nothing")
         self.assertTrue(Trial(Shape("5", 3), (cures.bare(plan),), BASE).is_bare)
         bad = Trial(Shape("5", 3), (), BASE.having(badrows=1))
         self.assertEqual((bad.has_bad_rows, bad.lenient), (True, True))
@@ -208,6 +210,8 @@ class OfAsking(unittest.TestCase):
         asking = Asking(evidence(filled={0: 90000, 2048: 90000 // 16 - 1}), OPTIONS)
         self.assertEqual(asking.request(Shape("5", 3)).get("offsets"), "0")
         self.assertEqual(asking.request(Shape("5", 3), True).get("offsets"), "0,2048")
+        bare = dataclasses.replace(asking.evidence, plan=plan_of())
+        self.assertEqual(Asking(bare, OPTIONS).request(Shape("5", 3), True).get("offsets"), "0")
 
     def test_unread_rows(self) -> None:
         asking = Asking(evidence(bad=100), OPTIONS)
@@ -292,7 +296,7 @@ class Asked(unittest.TestCase):
     def test_late_counts_as_allowed(self) -> None:
         questions, _, late = self.questions(lambda *_: Answer(None))
         self.assertTrue(questions.may_list(self.plan(), Shape("6", 3)))
-        self.assertEqual(late, ["landmarks alone allow in 5 s", "parity alone allows in 5 s"])
+        self.assertEqual(late, ["landmarks allow in 5 s", "parity allows in 5 s"])
         # What was put before its time was up is no first set: an earlier one may pass.
         questions, _, _ = self.questions(lambda *_: Answer(None, b"3 5:la:none:8:0:0,1,2\n"))
         self.assertEqual(questions.first("a", "x"), First("", True))
@@ -308,7 +312,7 @@ class Asked(unittest.TestCase):
                 questions.allowed_by_landmarks(self.plan())
                 questions.most_fits(self.plan(), 1)
             self.assertEqual([call.args[2] for call in run.call_args_list], [part] * 3)
-            self.assertEqual(late, [f"x in {part} s", f"enough marks of a group allow in {part} s"])
+            self.assertEqual(late, [f"x in {part} s", f"enough landmarks allow in {part} s"])
         self.assertEqual(dataclasses.replace(OPTIONS, question=7).question_seconds, 7)
 
     def test_passed_over_where_landmarks_or_parity_allow_none(self) -> None:
@@ -554,12 +558,12 @@ class Hunts(InFolder):
         hunt, _ = self.hunt(lambda *_: put("next 9 of 9\n"))
         self.assertEqual([chosen for chosen, _ in hunt.ways(Shape("0", 3), Step((), 0))], [()])
         names = [chosen[0].name for chosen, _ in hunt.ways(Shape("5", 3), Step((), 1))]
-        self.assertIn("an end before a superblock", names)
+        self.assertIn("end before a superblock", names)
         allows, _ = self.hunt(lambda *_: put("1 5:la:none:8:0:0,1,2\nnext 2 of 9\n"))
         names = [chosen[0].name for chosen, _ in allows.ways(Shape("5", 3), Step((), 1))]
-        self.assertNotIn("an end before a superblock", names)
-        self.assertIn("8 misfits", names)
-        self.assertIn("an end before a superblock", [chosen[0].name for chosen, _ in allows.ways(Shape("5", 3), Step((), 1, every=True))])
+        self.assertNotIn("end before a superblock", names)
+        self.assertIn("8 mismatches", names)
+        self.assertIn("end before a superblock", [chosen[0].name for chosen, _ in allows.ways(Shape("5", 3), Step((), 1, every=True))])
 
     def test_ways_of_one_family(self) -> None:
         """Of parity that stays alone: one way where there is parity, at any offset, and none else. Of what NTFS needs: where there is one."""
@@ -629,7 +633,7 @@ class Hunts(InFolder):
                 self.assertEqual(len(found.sets), allowed)
             self.assertEqual(ask.call_args_list, [mock.call(Shape("5", 3))] * asked)
             left_out = count - allowed
-            self.assertEqual(found.note, f"{left_out} more have parity where zeros are" if left_out else "")
+            self.assertEqual(found.note, f"{left_out} more contradict rows of zeros" if left_out else "")
 
     def test_zeros_beside_what_was_late(self) -> None:
         """Both are said of a listing."""
@@ -638,7 +642,7 @@ class Hunts(InFolder):
             return put("", 6, "reraid: cursor 1 is past 84") if f"from={LAST}" in words else late
         hunt, _ = self.hunt(answer)
         hunt.places = {Shape("5", 3): mock.Mock(allowed=lambda words: [it.offset == 0 for it in words])}
-        note = "its time of 60 s was up before all were looked at; 1 more have parity where zeros are"
+        note = "timed out after 60 s, before all were tested; 1 more contradict rows of zeros"
         self.assertEqual(hunt.listing(Shape("5", 3), BASE, hunt.plan).note, note)
 
     def test_words(self) -> None:
@@ -677,7 +681,7 @@ class Hunts(InFolder):
         found = groupings(listing.sets)
         self.assertEqual([(it.groups, it.offsets) for it in found], [(((0, 1), (2,)), (2048, 4096))])
         images = [Image("a", 0, 9), Image("b", 1, 9, like=0), Image("c", 2, 9)]
-        self.assertEqual(found[0].line(images), "  pairs 0=1 image 2 alone: a RAID 0 of 2 disks")
+        self.assertEqual(found[0].line(images), "  pairs 0=1 image 2 without a copy: a RAID 0 of 2 disks")
         self.assertEqual(found[0].partners(images), Pairs(((1,), ()), (2048, 4096), True))
         self.assertFalse(found[0].partners([Image("a", 0, 9), Image("b", 1, 9), Image("c", 2, 9)]).same)
         self.assertEqual((there((None, 3)), there((4, 2)), there((None, None))), ((3,), (2, 4), ()))
@@ -727,7 +731,7 @@ class Hunts(InFolder):
         hunt, _ = self.hunt(lambda *_: put(""))
         hunt.program.commands = Standin(("reraid mirrors", put("5 near2:8:2048:0,1,2,-\n", None)))
         listing = Mirrors(hunt, hunt.program.commands).listing(TWO)
-        self.assertEqual((len(listing.sets), listing.whole, listing.note), (1, False, "its time of 60 s was up before all were looked at"))
+        self.assertEqual((len(listing.sets), listing.whole, listing.note), (1, False, "timed out after 60 s, before all were tested"))
 
     def test_pairings_of_none(self) -> None:
         self.assertEqual(groupings([Ranked(0, read_word("near2:8:0:0,1").text)])[0].groups, ((0, 1),))

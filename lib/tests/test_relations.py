@@ -210,17 +210,18 @@ class Families(unittest.TestCase):
         assert found.reshape
         self.assertEqual((found.reshape.last, found.reshape.sector, sorted(found.reshape.before), sorted(found.reshape.after)),
                          (2207, 2208, [0, 1, 2, 3, 4], [0, 1, 2, 3]))
-        self.assertEqual(found.reshape.line(), "ties change for good between sector 2207 and sector 2208: up to the first 5 images are tied, from "
-                         "the second on 4, without image 4. A reshape that stopped there does so; so does an older array of the 4 behind what a "
-                         "newer one wrote, or image 4 if it is no member and holds what members hold, as a journal may; and so does image 4, "
-                         "which is zeros there, if nothing is stored on it there")
+        self.assertEqual(found.reshape.line(), "parity changes for good between sectors 2207 and 2208: before, it matches 5 images; after, only 4, "
+                                               "without image 4. A reshape may have stopped there. Or an older array of 4 disks follows what a "
+                                               "newer array wrote. Or image 4 is no member, but holds data of members, such as a journal. Or "
+                                               "nothing is stored on image 4 there, since it is zeros there")
 
-        self.assertEqual(found.reshape.short(), "perhaps a reshape stopped between sector 2207 and sector 2208, of 4 disks to 5, as was said: then "
-                         "no one set has the whole volume. What stands up to there is of the one array, and what stands behind it of the other. The "
-                         "sets of the one: --members 5 --first 1130496; those of the other: --members 4, without image 4; they need not have a sign. "
-                         "If it was on its way to more disks, the volume is that of the one up to its sector (2208 - OFFSET) * DATA DISKS, rounded "
-                         "down to whole rows of chunks, and from there on that of the other")
-        self.assertIn("--members 5 --first 1048576;", dataclasses.replace(found.reshape, last=99).short())
+        self.assertEqual(found.reshape.short(), "perhaps a reshape from 4 to 5 disks stopped between sectors 2207 and 2208, as reported above. Then "
+                                                "no single layout gives the whole volume: the first array ends there, and the second begins. To "
+                                                "search for the first: --members 5 --first 1130496. To search for the second: --members 4, without "
+                                                "image 4. Their layouts may have no rating. If the array was growing, take the volume of the first "
+                                                "array up to its sector (2208 - OFFSET) * DATA DISKS, rounded down to whole stripes. From there "
+                                                "on take that of the second")
+        self.assertIn("--members 5 --first 1048576.", dataclasses.replace(found.reshape, last=99).short())
 
     def test_older_array_behind_what_is_written(self) -> None:
         """The same is seen where an older array of four disks still stands behind what one of five wrote, so it is not called a reshape alone."""
@@ -228,7 +229,7 @@ class Families(unittest.TestCase):
         found, = told(rows.striped(self.rnd, 5, 5, 160) + older)
         assert found.reshape
         self.assertEqual((found.reshape.last, found.reshape.sector), (2207, 2208))
-        self.assertIn("so does an older array of the 4 behind what a newer one wrote", found.reshape.line())
+        self.assertIn("Or an older array of 4 disks follows what a newer array wrote", found.reshape.line())
         self.assertNotIn("zeros", found.reshape.line())
 
     def test_little_is_stored(self) -> None:
@@ -238,7 +239,7 @@ class Families(unittest.TestCase):
         found, = told(made)
         assert found.reshape
         self.assertEqual((found.reshape.last, found.reshape.sector, found.reshape.empty), (2207, 2208, True))
-        self.assertIn("so does image 1, which is zeros there, if nothing is stored on it there", found.reshape.line())
+        self.assertIn("Or nothing is stored on image 1 there, since it is zeros there", found.reshape.line())
 
     def test_reshape_in_what_is_empty(self) -> None:
         """Where the rows around it are zeros, it lies somewhere between those that are not."""

@@ -4,6 +4,7 @@ import contextlib
 import io
 import os
 import pathlib
+import shutil
 import signal
 import struct
 import subprocess
@@ -81,7 +82,7 @@ class Runs(InFolder):
 
     def trials(self) -> list[str]:
         """The trials that were printed."""
-        return [line.split(": ", 1)[1] for line in self.report.lines if line.startswith("trial ")]
+        return [line.split(": ", 1)[1] for line in self.report.lines if line.startswith("step ")]
 
     def test_found_at_once(self) -> None:
         noise = os.urandom(300000)
@@ -91,15 +92,15 @@ class Runs(InFolder):
         search = self.run_search(self.search(self.listing("levels 5\n"), self.volume(picture)))
         self.assertIs(search.best(), Score.WHOLE)
         self.assertEqual([it.word.text for it in search.tested], [TRUE])
-        self.assertEqual(self.trials()[-1], "levels 5, 3 members: nothing loosened: 1 set of 84")
-        self.assertEqual(search.tested[0].rows, "parity holds in all 9 rows")
-        self.assertIn("hint: offset 2048, from mark super of image 0 at sector 2048, less 0; on 1 image", self.report.lines)
+        self.assertEqual(self.trials()[-1], "RAID 5 of 3 disks; relaxed: nothing: 1 of 84 layouts passes")
+        self.assertEqual(search.tested[0].rows, "parity is consistent in all 9 rows")
+        self.assertIn("hint: data offset 2048 sectors, from landmark super on image 0: sector 2048 less 0; on 1 image", self.report.lines)
 
     def test_goes_on_where_a_checker_alone_is_content(self) -> None:
         marks = [("super", 0, 2048, "every:49152:4:0"), ("super", 1, 2048, "every:49152:4:0"), ("super", 1, 26624, "every:49152:4:0")]
         search = self.run_search(self.search(self.listing("levels 5\n"), self.volume(), groups=(("xfs", marks),)))
         self.assertIs(search.best(), Score.CHECKED)
-        self.assertIn("goes on: a checker alone is content", self.report.text)
+        self.assertIn("continuing: only a checker supports the result", self.report.text)
         self.assertEqual(len(search.tested), 1)
         self.assertNotIn("diagnosis", self.report.text)
 
@@ -110,6 +111,28 @@ class Runs(InFolder):
         self.assertEqual((search.best(), search.solved, self.standin.count("reraid list"), self.standin.count("reraid survey")),
                          (Score.NOTHING, True, 0, 0))
         self.assertNotIn("diagnosis", self.report.text)
+
+    def test_zeros_end_it(self) -> None:
+        """Images of nothing but zeros are not searched; one that is too long to be read is."""
+        for first, wanted in ((16 * MIB, True), (SECTOR, False)):
+            search = self.search(first=first)
+            for name in search.options.images:
+                with open(name, "wb") as file:
+                    file.truncate(SIZE * SECTOR)
+            with mock.patch.object(Evident, "run", lambda _: True):
+                self.run_search(search)
+            said = "the images hold nothing but zeros: there is nothing to search" in self.report.lines
+            self.assertEqual((said, search.best(), self.standin.count("reraid list")), (wanted, Score.NOTHING, 0))
+
+    def test_want_of_room_is_said_at_the_start(self) -> None:
+        """Where less is free than the images hold, and once."""
+        for free, said in ((3 * SIZE * SECTOR - 1, 1), (1 << 40, 0)):
+            search = self.search()
+            with mock.patch.object(Room, "free", lambda _, free=free: free):
+                search.look()
+                search.look()
+            self.assertEqual(sum(line.startswith(f"{search.room.base} has ") for line in self.report.lines), said)
+            self.assertEqual(self.report.record.last("room").get("images", 3 * SIZE * SECTOR), 3 * SIZE * SECTOR)
 
     def test_a_small_file_system_has_no_sign(self) -> None:
         few: dict[str, Any] = {"levels": ("5",), "members": (3,), "seconds": 1}
@@ -129,8 +152,8 @@ class Runs(InFolder):
     def test_nothing_passes(self) -> None:
         search = self.run_search(self.search(self.listing("no such line"), seconds=1, members=(3,), levels=("5",)))
         self.assertEqual((search.tested, search.best()), ([], Score.NOTHING))
-        self.assertTrue(any(line.startswith("diagnosis: ") for line in self.report.lines))
-        self.assertRegex(self.standin.noted[-1], r"^# passed over \d+ trials: landmarks alone, or parity alone, allow no set$")
+        self.assertTrue(any(line.startswith("nearest layouts: ") for line in self.report.lines))
+        self.assertRegex(self.standin.noted[-1], r"^# skipped \d+ steps: landmarks by themselves, or parity by itself, allow no layout$")
 
     def test_the_simplest_set_is_named(self) -> None:
         def answer(words: list[str], text: str) -> Answer:
@@ -155,13 +178,14 @@ class Runs(InFolder):
         rows = ("reraid mirrors", mirrors), ("reraid list", striped), written
         found = self.search(*rows, groups=(XFS,), levels=("10",), members=(4,))
         search = self.run_search(found)
-        self.assertIn("  pairs 0=1 image 2 alone: a RAID 0 of 2 disks", self.report.lines)
+        self.assertIn("  pairs 0=1 image 2 without a copy: a RAID 0 of 2 disks", self.report.lines)
         self.assertEqual([it.word.text for it in search.tested], ["near2:128:2048:0,1,2,-"])
 
     def test_what_was_put_off_without_landmarks_may_be_listed_with_them(self) -> None:
         """Then it is tested; a set that was put off with landmarks is not listed again."""
         search = self.search()
-        search.tests = cast(Any, types.SimpleNamespace(test=lambda _: [], without_damaged=lambda _: [], tell=None))
+        search.tests = cast(Any, types.SimpleNamespace(test=lambda _: [], without_damaged=lambda _: [], tell=None,
+                                                       put_off=[types.SimpleNamespace(word=read_word(TRUE))]))
         hunt = cast(Any, types.SimpleNamespace(evidence=types.SimpleNamespace(pairs=None)))
         for chosen, known in (((cures.told("no landmarks", Family.BARE),), set()), ((), {TRUE})):
             trial = Trial(Shape("5", 3), chosen)
@@ -181,8 +205,8 @@ class Runs(InFolder):
 
     def test_goes_on_to_all_of_small_images(self) -> None:
         search = self.run_search(self.search(self.listing("no such line"), groups=(), first=2 * MIB, seconds=1, members=(3,), levels=("5",)))
-        self.assertIn("nothing was found in the first part, and all images are small: goes on to the whole of them", self.report.lines)
-        self.assertTrue(any(line.startswith("reads all of the images") for line in self.report.lines))
+        self.assertIn("nothing was found in the first part. All images are small, so the search continues over all of them", self.report.lines)
+        self.assertTrue(any(line.startswith("reading all of the images") for line in self.report.lines))
         self.assertGreater(search.options.first, 1 << 60)
 
 
@@ -197,7 +221,7 @@ class Words(InFolder):
             return options.read_words(words)
 
     def test_read(self) -> None:
-        name = self.file("a")
+        name = self.file("a", "x")
         it = self.read("--all", "--json", "-x", "-j", "3", "--time", "7", "--levels", "5", "--members", "4", "--room", self.folder,
                        "--log", "l", name)
         self.assertEqual(it, Options((name,), True, True, 3, (4,), ("5",), 1 << 62, 7, self.folder, "l"))
@@ -205,7 +229,7 @@ class Words(InFolder):
         self.assertEqual((it.wants("5"), it.wants("6")), (True, False))
 
     def test_wrong_words(self) -> None:
-        name = self.file("a")
+        name = self.file("a", "x")
         for words in ((), ("none",), (self.folder,), ("--time", "0", name), ("--first", "1K", name), ("--levels", "4", name),
                       ("--members", "1", name), ("--members", "25", name), ("--room", name, name), (name,) * 25):
             with self.assertRaises(SystemExit) as ended:
@@ -213,6 +237,8 @@ class Words(InFolder):
             self.assertEqual(ended.exception.code, 2, words)
 
 
+# What FAKE and a run need of the system. No other program is on the PATH, so that it does not matter which are installed.
+NEEDED = ("cat", "dd", "head", "sh", "sleep")
 FAKE = """#!/bin/sh
 case $1 in
 survey)
@@ -244,17 +270,20 @@ class Statuses(InFolder):
         super().setUp()
         os.mkdir(f"{self.folder}/tools")
         os.mkdir(f"{self.folder}/room")
-        for name, text in (("reraid", FAKE), ("xfs_repair", "#!/bin/sh\nexit ${FAULT:-0}\n"), ("blkid", "#!/bin/sh\necho TYPE=xfs\n")):
+        # What is installed beside has no part in it: nothing can be mounted.
+        absent = [(name, "#!/bin/sh\nexit 1\n") for name in ("reraid-nbd", "nbdfuse", "fusermount3")]
+        for name, text in (("reraid", FAKE), ("xfs_repair", "#!/bin/sh\nexit ${FAULT:-0}\n"), ("blkid", "#!/bin/sh\necho TYPE=xfs\n"), *absent):
             os.chmod(self.file(f"tools/{name}", text), 0o755)
+        for name in NEEDED:
+            os.symlink(shutil.which(name) or name, f"{self.folder}/tools/{name}")
         self.images = [self.file(f"{name}.img", name.encode() * SIZE * SECTOR) for name in "abc"]
         self.file("plan", plan_of(XFS, EXT, lengths=(SIZE,) * 3).text())
         size = 5888 * SECTOR
         self.file("plan.volume", (b"XFSB" + struct.pack(">IQ", 4096, size // 4096)).ljust(size, b"\0"))
 
     def env(self, **values: str) -> dict[str, str]:
-        """The surroundings of a run."""
-        path = os.pathsep.join([f"{self.folder}/tools", os.path.dirname(sys.executable), "/usr/bin", "/bin"])
-        return {**os.environ, "PLAN": f"{self.folder}/plan", "PATH": path, "LC_ALL": "C.UTF-8", **values}
+        """Return the environment of a run."""
+        return {**os.environ, "PLAN": f"{self.folder}/plan", "PATH": f"{self.folder}/tools", "LC_ALL": "C.UTF-8", **values}
 
     def words(self, *words: str) -> list[str]:
         """A command line."""
@@ -264,7 +293,7 @@ class Statuses(InFolder):
     def ends(self, status: int, *words: str, says: str = "", **values: str) -> str:
         """A run that ends with this status, and leaves nothing in its room; what it printed."""
         out, error = io.StringIO(), io.StringIO()
-        handlers = {number: signal.getsignal(number) for number in (signal.SIGINT, signal.SIGTERM)}
+        handlers = {number: signal.getsignal(number) for number in main.ENDING}
         try:
             with mock.patch.dict(os.environ, self.env(**values)), contextlib.redirect_stdout(out), contextlib.redirect_stderr(error):
                 ended = main.main(["--room", f"{self.folder}/room", "--time", "60", "-j", "1", *words, *self.images])
@@ -279,16 +308,16 @@ class Statuses(InFolder):
         return out.getvalue()
 
     def test_signed(self) -> None:
-        text = self.ends(0, "--levels", "5", "--members", "3", says="class 0: RAID 5 of 3 disks, left-symmetric")
-        self.assertRegex(text, r"(?m)^\+  0      5:ls:none:128:2048:0,1,2  nothing   xfs 2 ")
+        text = self.ends(0, "--levels", "5", "--members", "3", says="candidate 0: RAID 5 of 3 disks, left-symmetric")
+        self.assertRegex(text, r"(?m)^\+   0   5:ls:none:128:2048:0,1,2\n(?: {8}.*\n)*? {8}relaxed: nothing; landmarks that match: xfs 2")
 
     def test_wrong_words(self) -> None:
-        self.ends(2, "--levels", "4", says="levels are of 0, 5, 6 and 10")
-        self.ends(2, says="there is no reraid on the PATH", PATH="/nowhere")
+        self.ends(2, "--levels", "4", says="give levels out of 0, 5, 6 and 10")
+        self.ends(2, says="the program reraid is not on the PATH: install it, or add its folder", PATH="/nowhere")
 
     def test_map_that_is_none(self) -> None:
         self.file("b.img.map", "0x0 +\nno map\n")
-        self.ends(3, says="reraid-try: " + self.images[1] + ".map is no map of ddrescue: line 2")
+        self.ends(3, says="reraid-try: " + self.images[1] + ".map is not a ddrescue mapfile: line 2")
 
     def test_survey_that_is_refused(self) -> None:
         self.ends(3, says="reraid-try: reraid: image read fault", MODE="refused")
@@ -301,7 +330,7 @@ class Statuses(InFolder):
 
     def test_log_is_kept(self) -> None:
         log = self.file("log", "old\n")
-        self.ends(0, "--levels", "5", "--members", "3", "--log", log, says=f"{log} has 4 bytes already: the log goes on behind them")
+        self.ends(0, "--levels", "5", "--members", "3", "--log", log, says=f"{log} has 4 bytes already: the log is appended")
         with open(log, encoding="utf-8") as file:
             lines = file.read().splitlines()
         self.assertEqual(lines[0], "old")
@@ -328,7 +357,7 @@ class Statuses(InFolder):
         with subprocess.Popen(self.words(*self.images), env=self.env(MODE=mode), cwd=TOP / "lib", stdout=subprocess.PIPE, stderr=subprocess.PIPE,
                               text=True) as run:
             assert run.stdout
-            first = next(line for line in run.stdout if line.startswith("reads all"))
+            first = next(line for line in run.stdout if line.startswith("reading all"))
             time.sleep(0.5)
             run.send_signal(number)
             out, error = run.communicate(timeout=60)
@@ -338,8 +367,8 @@ class Statuses(InFolder):
         return out
 
     def test_interrupted(self) -> None:
-        self.assertIn("interrupted before a volume was looked at", self.interrupted("slow", signal.SIGINT))
-        self.assertIn("no candidates\ninterrupted before a volume was looked at", self.interrupted("slow list", signal.SIGTERM))
+        self.assertIn("interrupted before any volume was checked", self.interrupted("slow", signal.SIGINT))
+        self.assertIn("no candidates\ninterrupted before any volume was checked", self.interrupted("slow list", signal.SIGTERM))
 
     def test_numbers(self) -> None:
         self.assertEqual((main.SIGNED, main.NONE, main.OUTSIDE, main.INTERRUPTED, main.CLOSED), (0, 1, 3, 130, 141))

@@ -70,7 +70,7 @@ class Runs(unittest.TestCase):
         with mock.patch.multiple(it, pass_through=passes, may_read_all=lambda: more, without_landmarks=lambda: done.append("bare"),
                                  diagnose=lambda _: done.append("diagnosis"), say_rows=lambda: done.append("rows")):
             it.run()
-        self.assertEqual(any("goes on to the whole of them" in line for line in said(it)), done[1] == "pass all 0")
+        self.assertEqual(any("continues over all of them" in line for line in said(it)), done[1] == "pass all 0")
         return done
 
     def test_what_follows(self) -> None:
@@ -92,7 +92,7 @@ class Runs(unittest.TestCase):
                 it.run()
             self.assertEqual(len(said(it)), count)
             self.assertEqual([line["first"] for line in it.report.record.of("reshape")], [100] * count)
-            self.assertTrue(all(line.startswith("perhaps a reshape stopped between sector 99 and sector 100, of 4 disks to 5") for line in said(it)))
+            self.assertTrue(all(line.startswith("perhaps a reshape from 4 to 5 disks stopped between sectors 99 and 100") for line in said(it)))
 
     def test_best(self) -> None:
         it = search()
@@ -112,13 +112,25 @@ class Runs(unittest.TestCase):
         for solved, groups, more, wanted in ((True, True, False, ["look"]), (False, True, True, ["look", "evidence", "all"]),
                                              (False, False, False, ["look", "evidence", "all"]), (False, False, True, ["look", "evidence"])):
             it, done = search(), list[str]()
-            evident = types.SimpleNamespace(run=lambda solved=solved: solved, hunt=lambda groups=groups: hunt(groups=groups))
+            evident = types.SimpleNamespace(run=lambda solved=solved: solved, hunt=lambda groups=groups: hunt(groups=groups), told=None)
             with mock.patch("reraid_try.policy.search.Evident", lambda _, evident=evident: evident), \
                     mock.patch("reraid_try.policy.search.Tests"), \
-                    mock.patch.multiple(it, look=lambda done=done: done.append("look"), may_read_all=lambda more=more: more,
+                    mock.patch.multiple(it, look=lambda done=done: done.append("look"), answered=lambda _: False, look_for_fills=lambda: None), \
+                    mock.patch.multiple(it, are_zeros=lambda: False, may_read_all=lambda more=more: more,
                                         try_all=lambda done=done: done.append("all"), say_evidence=lambda _, done=done: done.append("evidence")):
                 it.pass_through()
             self.assertEqual((it.solved, done), (solved, wanted))
+
+    def test_an_answer_after_encrypted_sets(self) -> None:
+        """Where evidence ends the search without a rating, as with encrypted volumes, it is said what the images are; with a rating it is not."""
+        for score, asked in ((Score.NOTHING, 2), (Score.CHECKED, 1)):
+            it, answers = search(), mock.Mock(side_effect=[False, True])
+            evident = types.SimpleNamespace(run=lambda it=it, score=score: it.tested.append(tested(score)) or True, told=None)
+            with mock.patch("reraid_try.policy.search.Evident", lambda _, evident=evident: evident), \
+                    mock.patch("reraid_try.policy.search.Tests"), \
+                    mock.patch.multiple(it, look=lambda: None, answered=answers, look_for_fills=lambda: None, are_zeros=lambda: False):
+                it.pass_through()
+            self.assertEqual(answers.call_count, asked)
 
     def test_rows_of_the_best(self) -> None:
         """Of the candidates that are said in words it is asked in which rows parity holds, and beside the images of their hunts those that ties name
@@ -277,7 +289,7 @@ class Steps(unittest.TestCase):
                                      keep=lambda found, kept=kept: kept.extend(found)):
                 it.try_all()
             self.assertEqual((kept, it.tests.put_off == [one]), ([one] * late, late))
-            self.assertEqual(cast(Standin, it.commands).noted, ["# passed over 2 trials: landmarks alone, or parity alone, allow no set"])
+            self.assertEqual(cast(Standin, it.commands).noted, ["# skipped 2 steps: landmarks by themselves, or parity by itself, allow no layout"])
         it.hunt.passed_over = 0
         with mock.patch.multiple(it, first_trials=lambda: True):
             it.try_all()
@@ -302,8 +314,8 @@ class Damage(unittest.TestCase):
 
     def test_the_first_rows(self) -> None:
         """With all groups of landmarks and then without each, of the shapes of which parity tells; tested over all rows."""
-        first = "the first 65536 rows alone"
-        ext, xfs = "without group 1 (ext, 1 mark)", "without group 0 (xfs, 2 marks)"
+        first = "only the first 65536 rows"
+        ext, xfs = "without landmark group 1 (ext, 1 landmark)", "without landmark group 0 (xfs, 2 landmarks)"
         wanted = [f"5 {first}: 65536 () by 90000", f"6 {first}: 65536 () by 90000",
                   f"5 {first} and {ext}: 65536 (1,) by 90000", f"6 {first} and {ext}: 65536 (1,) by 90000",
                   f"5 {first} and {xfs}: 65536 (0,) by 90000", f"6 {first} and {xfs}: 65536 (0,) by 90000"]
@@ -354,7 +366,7 @@ class Mirrored(unittest.TestCase):
 
     def test_what_is_listed(self) -> None:
         """What is a RAID 0 of one of each pair is searched as such, and the others are tested; all of it, also where one is enough."""
-        trial = "take levels 10, 4 members, 1 missing, copies near2: nothing loosened"
+        trial = "take RAID 10 of 4 disks, 1 missing, copies near2; relaxed: nothing"
         self.assertEqual(self.listed("near2:8:0:0,1,2,-", "near2:8:0:0,1,2"), (False, [f"{trial} near2:8:0:0,1,2", "groups ((0, 1), (2,))"]))
         self.assertEqual(self.listed("near2:8:0:0,1,2,-", take=True), (True, [f"{trial} ", "groups ((0, 1), (2,))"]))
         self.assertEqual(self.listed("near2:8:0:0,1,2,-", grouped=True)[0], True)
@@ -401,18 +413,18 @@ class Attempts(unittest.TestCase):
         self.assertEqual(self.attempt(plan=None), (False, [], []))
         self.assertEqual((self.attempt(may=False), self.printed), ((False, ["may"], []), []))
         self.attempt(may=False, show=True)
-        self.assertEqual(self.printed, ["passed over: levels 5, 3 members: badrows 99 and 8 misfits"])
+        self.assertEqual(self.printed, ["skipped: RAID 5 of 3 disks; relaxed: badrows 99 and 8 mismatches"])
         self.assertEqual(self.attempt(may=False, last=True)[1], ["listing"])
         told, asked, (trial,) = self.attempt()
-        self.assertEqual((told, asked, trial.number, trial.loosened, trial.request), (True, ["may", "listing"], 1, ["badrows 99", "8 misfits"],
+        self.assertEqual((told, asked, trial.number, trial.loosened, trial.request), (True, ["may", "listing"], 1, ["badrows 99", "8 mismatches"],
                                                                                       BASE.having(window=7)))
-        self.assertEqual(self.printed, ["trial 1: levels 5, 3 members: badrows 99 and 8 misfits: 0 sets of 9"])
-        self.assertEqual((self.search.shapes_tried, self.search.was_late), ({"levels 5, 3 members"}, False))
+        self.assertEqual(self.printed, ["step 1: RAID 5 of 3 disks; relaxed: badrows 99 and 8 mismatches: 0 of 9 layouts pass"])
+        self.assertEqual((self.search.shapes_tried, self.search.was_late), ({"RAID 5 of 3 disks"}, False))
 
     def test_bad_rows_that_were_found(self) -> None:
         """The trial names how many rows it took."""
         _, _, (trial,) = self.attempt(listing=Listing((), 9, False, "late", bad_rows=32))
-        self.assertEqual((trial.loosened, self.search.was_late), (["badrows 32", "8 misfits"], True))
+        self.assertEqual((trial.loosened, self.search.was_late), (["badrows 32", "8 mismatches"], True))
         _, _, (trial,) = self.attempt(listing=Listing((), 9, False, "late", bad_rows=32), tested_by=None)
         self.assertEqual(trial.request, BASE.having(badrows=32))
         _, _, (trial,) = self.attempt(tested_by=None)
@@ -430,9 +442,9 @@ class Attempts(unittest.TestCase):
         late = [(it.say_trial(over, Trial(FIVE), Listing((), 9, whole)).number, it.was_late) for whole in (True, False, True)]
         self.assertEqual(late, [(1, False), (2, True), (3, True)])
         it = search()
-        it.say_late("parity alone allows", 1)
+        it.say_late("parity allows", 1)
         self.assertTrue(it.was_late)
-        self.assertIn("1 second were up before it was known whether parity alone allows a set", said(it)[0])
+        self.assertIn("timed out after 1 s: it is not known whether parity allows a layout", said(it)[0])
 
     def test_why_before_a_trial(self) -> None:
         """Why it goes on stands before the next trial, which is shown while it is at work."""
@@ -441,7 +453,7 @@ class Attempts(unittest.TestCase):
         with mock.patch.object(it, "why_on") as why, mock.patch.object(it.report.bar, "show") as show:
             it.attempt(cast(Any, over), FIVE, (), BASE)
         why.assert_called_once_with()
-        show.assert_called_once_with("levels 5, 3 members: nothing loosened: ")
+        show.assert_called_once_with("RAID 5 of 3 disks; relaxed: nothing: ")
 
     def test_why_it_goes_on(self) -> None:
         """It is said once, where a checker alone is content, with the longest row of those."""
@@ -460,13 +472,13 @@ class Seen(InFolder):
     def test_images(self) -> None:
         """Each has a line, but not again where nothing else is seen of it later; then how much is read."""
         names = tuple(self.file(name, name.encode() * (3 * MIB)) for name in "ab")
-        it = Search(Options(names, first=MIB), Standin(), Told(), cast(Any, None))
+        it = Search(Options(names, first=MIB), Standin(), Told(), cast(Any, types.SimpleNamespace(free=lambda: ALL)))
         it.look()
         self.assertEqual(([line.split()[:2] for line in said(it)[:2]], said(it)[2:]),
-                         ([["image", "0"], ["image", "1"]], ["reads the first part of the images: 2 MiB"]))
+                         ([["image", "0"], ["image", "1"]], ["reading the first part of the images: 2 MiB"]))
         it.options = dataclasses.replace(it.options, first=ALL)
         it.look()
-        self.assertEqual(said(it)[3:], ["reads all of the images: 6 MiB"])
+        self.assertEqual(said(it)[3:], ["reading all of the images: 6 MiB"])
         self.assertEqual((it.report.total, len(it.images)), (6 * MIB, 2))
 
     def test_evidence(self) -> None:
@@ -475,9 +487,9 @@ class Seen(InFolder):
         both = [hunt(groups=groups, evidence=types.SimpleNamespace(said=[hint])) for groups in (True, False)]
         for one in both:
             it.say_evidence(one)
-        self.assertEqual(said(it), ["group 0 (xfs, 2 marks), from sector 2048 of image 0 to 26624 of image 1",
-                                    "group 1 (ext, 1 mark), from sector 7426 of image 2 to 7426 of image 2", "hint: offset 2048, from a mark",
-                                    "no landmarks: parity alone rules sets out", "hint: offset 2048, from a mark"])
+        self.assertEqual(said(it), ["landmark group 0 (xfs, 2 landmarks): sector 2048 of image 0 to 26624 of image 1",
+                                    "landmark group 1 (ext, 1 landmark): sector 7426 of image 2", "hint: data offset 2048 sectors, from a mark",
+                                    "no landmarks: only parity rules out layouts", "hint: data offset 2048 sectors, from a mark"])
         self.assertEqual(it.hunts, both)
 
     def test_groups_of_copies(self) -> None:
@@ -499,7 +511,7 @@ class Seen(InFolder):
                     mock.patch.multiple(it, take_step=step, attempt_bare=bare, say_evidence=lambda _, done=done: done.append("evidence")):
                 made.return_value.shapes.tiers.return_value = Tiers(rest=shapes)
                 self.assertEqual(it.grouped(cast(Any, over), grouped), bool(shapes))
-            self.assertEqual((done, said(it)), (wanted, ["  pairs 0=2 image 1 alone: a RAID 0 of 2 disks"]))
+            self.assertEqual((done, said(it)), (wanted, ["  pairs 0=2 image 1 without a copy: a RAID 0 of 2 disks"]))
             words = made.call_args[0]
             self.assertEqual(([image.number for image in words[2]], words[4].partners, words[5]), ([0, 1], ((2,), ()), 64))
 
@@ -508,9 +520,9 @@ class Taken(unittest.TestCase):
     """What becomes of the sets of a trial."""
 
     def take(self, trial: Trial, texts: Sequence[str], known: Sequence[str] = (), pairs: object = None, found: bool = True, end: bool = False,
-             unseen: Sequence[str] = ()) -> tuple[bool, Search, list[Candidate]]:
-        """Whether one is clean and whole, the search, and the candidates that were tested; in their volumes something may be found, and those of some
-        sets are put off."""
+             unseen: Sequence[str] = (), late: Sequence[str] = ()) -> tuple[bool, Search, list[Candidate]]:
+        """Whether one is clean and whole, the search, and the candidates that were tested; in their volumes something may be found. Those of some
+        sets are not looked at, and some of these are put off."""
         it, asked = search(), list[Candidate]()
         it.known = set(known)
 
@@ -523,12 +535,23 @@ class Taken(unittest.TestCase):
 
         def lesser(candidates: Sequence[Candidate]) -> list[Candidate]:
             return [candidate("6:ls:after-q:8:0:0,1,-,2", whole())] if end else []
-        it.tests = cast(Any, types.SimpleNamespace(test=test, without_damaged=lesser, tell=lambda _: None))
-        over = types.SimpleNamespace(evidence=types.SimpleNamespace(pairs=pairs))
+        it.tests = cast(Any, types.SimpleNamespace(test=test, without_damaged=lesser, tell=lambda _: None, room=types.SimpleNamespace(mounts=False),
+                                                   put_off=[candidate(text) for text in late]))
+        over = types.SimpleNamespace(evidence=types.SimpleNamespace(pairs=pairs, start=0, end=9))
 
         def words(one: Ranked) -> tuple[Word | None, Word]:
             return None, read_word(one.text)
         return it.take(cast(Any, over), trial, list(map(Ranked, range(9), texts)), words), it, asked
+
+    def test_too_many(self) -> None:
+        """Sets that were not looked at since they were too many may be listed again; those that are put off, and those that give a volume that was
+        looked at, may not."""
+        texts = [f"5:ls:none:8:{offset}:0,1,2" for offset in (0, 8, 16)]
+        _, it, _ = self.take(Trial(FIVE), texts, unseen=texts[1:], late=texts[2:])
+        self.assertEqual(it.known, {texts[0], texts[2]})
+        one, other = candidate(texts[0], whole()), candidate(texts[1])
+        one.alike.append(texts[1])
+        self.assertEqual(it.left_of(Trial(FIVE), [one, other]), set())
 
     def test_the_simplest_once(self) -> None:
         """Sets of one volume are one candidate, and none that is known is tested again."""
@@ -552,7 +575,7 @@ class Taken(unittest.TestCase):
         self.assertEqual(len(self.take(Trial(NONE), ["0:plain:none:8:0:0,1,2"], found=False)[1].tested), 1)
         texts = ["5:ls:none:8:0:0,1,2", "5:la:none:8:0:0,1,2"]
         self.assertEqual(self.take(Trial(FIVE, bare), texts, unseen=texts[:1])[1].known, {texts[1]})
-        self.assertEqual(self.take(Trial(FIVE), texts, unseen=texts[:1])[1].known, set(texts))
+        self.assertEqual(self.take(Trial(FIVE), texts, unseen=texts[:1], late=texts[:1])[1].known, set(texts))
 
     def test_without_damaged_images(self) -> None:
         """What is whole without an image that makes rows unsound ends it too."""
@@ -575,7 +598,8 @@ class Taken(unittest.TestCase):
             it = search()
             tell = mock.Mock()
             it.tests = cast(Any, types.SimpleNamespace(tell=tell))
-            found = [cast(Any, types.SimpleNamespace(score=score, found=types.SimpleNamespace(score=score))) for score in scores]
+            found = [cast(Any, types.SimpleNamespace(score=score, found=types.SimpleNamespace(score=score, is_intact=False), volume=1))
+                     for score in scores]
             self.assertEqual((it.keep(found), it.tested, tell.call_count), (told, found, len(scores)))
 
 

@@ -70,8 +70,8 @@ class Contents(unittest.TestCase):
         found = {it.first: it for it in shared.looked_at(self.disks)}
         self.assertEqual({first: (it.copied, it.empty) for first, it in found.items()}, {0: (True, False), 1000: (False, True), 2000: (False, False)})
         self.assertIn("the same on each", found[0].line())
-        self.assertIn("nothing but zeros", found[1000].line())
-        self.assertIn("not the same on each, as in an array of its own", found[2000].line())
+        self.assertIn("zeros in all sampled sectors", found[1000].line())
+        self.assertIn("not the same on each: perhaps an array of its own", found[2000].line())
 
     def test_an_array_with_some_equal_blocks(self) -> None:
         """Images of which a half is the same are no copies; those of which but one in twenty blocks differs are."""

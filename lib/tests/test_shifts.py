@@ -1,5 +1,6 @@
 """How far apart images hold the same sectors: files made by hand."""
 
+import dataclasses
 import os
 import random
 import tempfile
@@ -155,6 +156,11 @@ class Told(unittest.TestCase):
         # One pair of four images tells nothing of the others, and of three images two are most.
         self.assertIsNone(shifts.apart([Shift(1, 3, 49152, 90)], 4))
         self.assertEqual(shifts.apart([Shift(1, 2, 49152, 90)], 3), 49152)
+        # Far copies of five disks of which one is missing: what few sectors of other pairs show does not count, unless as many nearly do.
+        other = [Shift(0, 1, -304648, 39), Shift(0, 2, -132616, 39), Shift(1, 3, 132616, 39)]
+        far = [Shift(0, 3, -172032, 14166), Shift(1, 2, 172032, 14424), Shift(2, 3, 172032, 14507)]
+        self.assertEqual(shifts.apart([*other, *far], 4), 172032)
+        self.assertIsNone(shifts.apart([*(dataclasses.replace(it, shown=1000) for it in other), *far], 4))
         self.assertEqual([shifts.layout(128), shifts.layout(90112), shifts.layout(65536)], ["offset", "far", "far"])
         self.assertEqual([shifts.layout(32768), shifts.layout(96)], ["offset", "far"])
 

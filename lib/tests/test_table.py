@@ -23,14 +23,15 @@ class Table(unittest.TestCase):
             self.assertEqual(events[:4 - as_json], ["head", "candidate", "end", "words"][as_json:])
             self.assertEqual(report.record.last("end")["text"], table.LAST)
             if not as_json:
-                self.assertEqual(report.lines[0].split(), ["class", "set", "loosened", "fits", "volume"])
-                self.assertEqual(report.lines[1].split()[:5], ["++", "0", SET, "nothing", "-"])
+                self.assertEqual(report.lines[0], "Candidates: rating, number, layout")
+                self.assertEqual(report.lines[1].split("\n"), [f"++  0   {SET}", f"{table.INDENT}xfs: said; 1 of 1 files intact",
+                                                               f"{table.INDENT}relaxed: nothing"])
         unsound = Told()
         table.show(unsound, [candidate(verdict=whole(), unsound=7, chosen=(cures.misfits(),))], images)
-        self.assertEqual(unsound.lines[1].split()[3:7], ["8", "misfits", "7", "unsound"])
+        self.assertEqual(unsound.lines[1].split("\n")[2], "        relaxed: 8 mismatches; 7 inconsistent rows")
         sound = Told()
         table.show(sound, [candidate(verdict=whole(), unsound=0)], images)
-        self.assertEqual(sound.lines[1].split()[:5], ["++", "0", SET, "nothing", "-"])
+        self.assertEqual(sound.lines[1].split("\n")[2], "        relaxed: nothing")
         none = Told()
         table.show(none, [], images)
         self.assertEqual(none.lines, ["no candidates"])
@@ -40,7 +41,7 @@ class Table(unittest.TestCase):
         for inside, told in ((Inside(1, 2), [1, 2]), (None, None)):
             fields = table.fields(4, candidate(verdict=whole(), unsound=7, inside=inside, chosen=(cures.misfits(),)))
             self.assertEqual({name: fields[name] for name in ("class", "set", "inside", "unsound", "loosened", "sign", "score")},
-                             {"class": 4, "set": SET, "inside": told, "unsound": 7, "loosened": ["8 misfits"], "sign": "++", "score": 3})
+                             {"class": 4, "set": SET, "inside": told, "unsound": 7, "loosened": ["8 mismatches"], "sign": "++", "score": 3})
 
 
 class Faulty(unittest.TestCase):
@@ -51,7 +52,7 @@ class Faulty(unittest.TestCase):
             found = [candidate(verdict=whole())] * scored + [candidate(verdict=broken)] * (known - scored) + [candidate()] * others
             shown, said = table.shown(False, found)
             return len(shown), said
-        nothing, fault = "nothing is known in the volume", "a checker found fault (--json has them all)"
+        nothing, fault = "nothing recognized in the volume", "a checker reports errors (--json lists them all)"
         self.assertEqual(told(24), (24, []))
         self.assertEqual(told(25), (24, [f"1 more: {fault}"]))
         self.assertEqual(told(25, 2, 3), (2, [f"23 more: {fault}", f"3 more: {nothing}"]))

@@ -95,7 +95,7 @@ class Thousands(InFolder):
     def test_late(self) -> None:
         """What ran out of its time tells nothing, and that is said."""
         self.assertEqual(self.most(self.hunt({}, 16, late=True)), [])
-        self.assertEqual(self.late, ["enough marks of a group allow"] * 3)
+        self.assertEqual(self.late, ["enough landmarks allow"] * 3)
 
     def test_groups(self) -> None:
         """Two at most, with twelve inodes at least, the largest first."""
@@ -110,12 +110,12 @@ class Thousands(InFolder):
         for kinds, places in ((BOTH, [2, 1]), (BOTH[:1], [1]), (BOTH[1:], [2, 3])):
             self.assertEqual([group.place for group in thousands.groups_of(hunt, ZERO, kinds)], places)
         self.assertEqual(thousands.Most(ZERO, plan, plan.groups[2], 14).line(9),
-                         "14 of 16 tree blocks of a btrfs lie where the tree of chunks says; at the next set 9 do")
+                         "14 of 16 tree blocks of a btrfs lie at the places that the chunk tree states; with the next layout, 9 do")
         plan = plan_of(XFS, pair_group(361), inode_group(13), lengths=(8000,) * 3)
         self.standin.rows = (("reraid survey", put(plan.text())),)
         self.assertEqual([group.place for group in thousands.groups_of(hunt, ZERO, ("extinode",))], [1])
         self.assertEqual(thousands.Most(ZERO, plan, plan.groups[1], 300).line(None),
-                         "300 of 361 inode pairs of an ext4 lie where the descriptors of their groups say")
+                         "300 of 361 inode pairs of an ext4 lie at the places that the block group descriptors state")
 
     def attempted(self, hunt: Hunt, whole: bool = False) -> tuple[bool, list[str], list[tuple[Trial, list[str]]]]:
         """Whether the search is at its end, what was said, and the trials with the sets that were tested."""
@@ -137,22 +137,27 @@ class Thousands(InFolder):
         """The sets with the most are tested, with their reason, by what is asked for where nothing is loosened."""
         hunt = self.hunt({"0": [5], "5": [14, 9, 14], "6": [9]}, 16)
         done, said, tested = self.attempted(hunt)
-        why = "14 of 16 inodes of an XFS lie where their numbers say; at the next set 9 do"
+        why = "14 of 16 inodes of an XFS lie at the places that their numbers state; with the next layout, 9 do"
         self.assertEqual((done, said), (False, [f"  {why}", why]))
         (trial, words), = tested
-        self.assertEqual((trial.line(), words), ("levels 5, 4 members, 1 missing: the inodes of an XFS alone, as many as fit",
+        self.assertEqual((trial.line(), words), ("RAID 5 of 4 disks, 1 missing; relaxed: only the inodes of an XFS, as many as match",
                                                  ["5:ls:none:128:2048:0,1,2,-"] * 2))
         self.assertEqual((trial.request, trial.out, trial.is_bare), (hunt.asking.request(FIVE), frozenset({0}), False))
 
     def test_end(self) -> None:
         """A set that is whole ends the search; where no other set has any fits, none is named."""
         done, said, tested = self.attempted(self.hunt({"0": [], "5": [14], "6": [14]}, 16), whole=True)
-        self.assertEqual((done, said[0], len(tested)), (True, "  14 of 16 inodes of an XFS lie where their numbers say", 1))
+        self.assertEqual((done, said[0], len(tested)), (True, "  14 of 16 inodes of an XFS lie at the places that their numbers state", 1))
 
     def test_too_many(self) -> None:
         """Of more than 64 sets inodes tell nothing."""
         self.assertEqual(self.attempted(self.hunt({"0": [], "5": [14] * 65, "6": []}, 16)), (False, [], []))
         self.assertEqual(len(self.attempted(self.hunt({"0": [], "5": [14] * 64, "6": []}, 16))[2][0][1]), 64)
+
+    def test_few(self) -> None:
+        """Sets at which fewer than a tenth of a group lie where they say are not tried: far copies have as many by chance."""
+        for marks, trials in ((20, 1), (21, 0)):
+            self.assertEqual(len(self.attempted(self.hunt({"0": [], "5": [2], "6": []}, marks))[2]), trials)
 
     def test_refused(self) -> None:
         """What the program refuses is said, and the search goes on."""
@@ -176,7 +181,8 @@ class Asked(unittest.TestCase):
                                        tested=[types.SimpleNamespace(score=Score.CHECKED)])
         request = types.SimpleNamespace(having=lambda **values: values)
         hunt: Any = types.SimpleNamespace(plan=types.SimpleNamespace(groups=[types.SimpleNamespace(kind=kind) for kind in groups]),
-                                          surveys=types.SimpleNamespace(plan=plan), asking=types.SimpleNamespace(request=lambda _: request))
+                                          surveys=types.SimpleNamespace(plan=plan), asking=types.SimpleNamespace(request=lambda _: request),
+                                          evidence=types.SimpleNamespace(images=(Image("a", 0, 9),), pairs=None, end=9))
         it = Evident(cast(Any, search))
         it.__dict__["later_kinds"] = kinds
         self.assertFalse(it.by_thousands(hunt, Aim((0, 1, 2), Span(0, 9), "why", by_thousands=shapes), 1))

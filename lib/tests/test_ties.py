@@ -70,9 +70,9 @@ class Told(unittest.TestCase):
         known = told.known[0]
         self.assertEqual((known.family.images, known.family.level, known.family.lost, known.family.members), ((0, 1, 2, 3, 4), "6", 1, 6))
         self.assertEqual((known.begin, known.chunk), (24, 16))
-        line = "images 0, 1, 2, 3, 4: tied as by parity of level 6, 1 disk of 6 is lost, chunks of 16 sectors, first at sector 24"
-        self.assertEqual(ties.lines(told), [line, "image 5: tied to nothing; foreign, zeros, too old or damaged to tell, or of an array that has "
-                                                  "lost as many disks as its level bears"])
+        line = "images 0, 1, 2, 3, 4: parity matches RAID 6, 6 disks, 1 missing, chunks of 8 KiB, first match at sector 24"
+        self.assertEqual(ties.lines(told), [line, "image 5: matches nothing. No member, zeros, too old or damaged to tell, or from an array that "
+                                                  "misses as many disks as its level tolerates"])
 
     def test_some_images(self) -> None:
         """Of some images of a heap the numbers are those that they have among all."""
@@ -88,6 +88,15 @@ class Told(unittest.TestCase):
         runner.answer = Answer(0, b"alone 0,1\nfree 0 of 0\n")
         Ties(runner, images, 9).told((0, 1), 100, 100 + 10 * ties.MOST_ROWS + 1)
         self.assertIn("step=11", runner.asked[0])
+
+    def test_rows_are_read_once(self) -> None:
+        """What was asked of the same images and rows is kept; other rows are asked for."""
+        runner, images = disks([[ZERO, ZERO]])
+        runner.answer = Answer(0, b"alone 0,1\nfree 0 of 0\n")
+        asked = Ties(runner, images, 9)
+        self.assertIs(asked.told((0, 1), 0, 300), asked.told([0, 1], 0, 300))
+        asked.told((0, 1), 0, 299)
+        self.assertEqual(len(runner.asked), 2)
 
     def test_no_relations(self) -> None:
         """A program whose time is up, one that failed, and an answer that is none tell nothing."""
@@ -122,15 +131,15 @@ class Told(unittest.TestCase):
             row[3] = rows.sector(rnd)
         runner, images = disks(made)
         said = ties.lines(Ties(runner, images, 9).told(range(5), 0, 400))
-        self.assertIn("1 disk of 5 is lost, counting one that is old or damaged", said[0])
-        self.assertEqual(said[1][:44], "image 3 is old or damaged from sector 100 on")
+        self.assertIn("RAID 6, 5 disks, 1 missing, counting one that is old, damaged or from another array", said[0])
+        self.assertEqual(said[1][:67], "image 3 is old or damaged from sector 100 on, or from another array")
         made = rows.striped(rnd, 4, 5, 400)
         for row in made[50:60]:
             row[0] = rows.sector(rnd)
         runner, images = disks(made)
         said = ties.lines(Ties(runner, images, 9).told(range(4), 0, 400))
-        self.assertIn("in 10 rows of those that were looked at, the first at sector 50, nothing is tied: bad areas, one of the disks is old, or "
-                      "parity was never made there", said[1])
+        self.assertIn("parity matches nothing in 10 rows of those sampled, the first at sector 50. Possible causes: bad areas, an old or half "
+                      "rebuilt disk, parity that was never written", said[1])
 
     def test_since_when_a_disk_is_old(self) -> None:
         """Where rows are looked at that lie far apart, those before the first in which it is old say from which row on it is, of images that are
@@ -163,26 +172,55 @@ class Told(unittest.TestCase):
         """What is said of families, and of images that nothing ties."""
         return ties.lines(ties.Told(tuple(map(ties.Known, known)), alone, True))
 
+    def test_a_half_rebuilt_disk(self) -> None:
+        """A disk that is zeros in some rows is old at level 6, since the others have a tie less there; at level 5 these rows are not tied. Zeros that
+        are data leave all ties."""
+        for level, members in ((6, 5), (5, 4)):
+            rnd = random.Random(9)
+            made = rows.striped(rnd, members, level, 400)
+            for row in made[200:300]:
+                row[1] = bytes(len(row[1]))
+            runner, images = disks(made)
+            family = Ties(runner, images, 9).told(range(members), 0, 400).known[0].family
+            self.assertEqual([(it.image, it.rows, it.first) for it in family.old], [(1, 100, 200)] if level == 6 else [])
+            self.assertEqual((family.loose, family.loose_first), (0, None) if level == 6 else (100, 200))
+            line = ties.lost_line(family)
+            self.assertIn("counting one that is old" if level == 6 else ", but not in all rows", line)
+        runner, images = disks(rows.striped(random.Random(9), 5, 6, 400, sparse=0.3))
+        family = Ties(runner, images, 9).told(range(5), 0, 400).known[0].family
+        self.assertEqual((family.old, family.loose), ((), 0))
+
+    def test_twins(self) -> None:
+        """An image that is tied to its twin alone, which is not asked, is not tied to nothing."""
+        told = ties.Told((ties.Known(Family((0, 2), 90, 0, 99, "10", 0, copies=((0, 2),))),), (1, 3), True)
+        self.assertEqual(ties.lines(told, {1: 4})[1:], ["image 1: matches only image 4, which holds the same data",
+                                                        "image 3: matches nothing. Its copy is missing, or it is no member, zeros or damaged"])
+        self.assertEqual(ties.lines(told, {1: 4, 3: 5})[1:], ["image 1: matches only image 4, which holds the same data",
+                                                              "image 3: matches only image 5, which holds the same data"])
+        self.assertEqual(ties.lines(ties.Told((), (1,), True), {1: 4}), [])
+
     def test_parts_of_a_nested_array(self) -> None:
         """Two arrays of one level with as many disks each may be one RAID 50; so may one, beside as many images as another has left."""
         five, other, six = Family((0, 2, 4), 500, 8, 900, "5", 1), Family((1, 3), 500, 8, 900, "5", 0), Family((5, 6, 7), 500, 8, 900, "6", 1)
         whole = dataclasses.replace(other, images=(1, 3, 8), parity=1)
-        self.assertEqual(self.said(five, whole)[2:], ["images 0, 2, 4 and images 1, 3, 8: 2 arrays of level 5 with 3 disks each; each by itself, or "
-                                                      "the parts of one RAID 50, which is not searched (docs/USING.md has how to)"])
+        self.assertEqual(self.said(five, whole)[2:], ["images 0, 2, 4 and images 1, 3, 8: 2 arrays of RAID 5 with 3 disks each. Each stands by "
+                                                      "itself, or they are the parts of one RAID 50, which is not searched (docs/RECIPES.md tells "
+                                                      "how to join them)"])
         self.assertEqual(len(self.said(five, six)), 2)
-        lost = "tied to nothing; foreign, zeros, too old or damaged to tell, or of an array that has lost as many disks as its level bears"
-        self.assertEqual(self.said(five, alone=(1, 3))[1:], [f"images 1, 3: {lost}, as the other part of a RAID 50 with images 0, 2, 4 may have"])
+        lost = "matches nothing. No member, zeros, too old or damaged to tell, or from an array that misses as many disks as its level tolerates"
+        self.assertEqual(self.said(five, alone=(1, 3))[1:], [f"images 1, 3: {lost}, such as the other part of a RAID 50 with images 0, 2, 4"])
         self.assertEqual(self.said(five, alone=(1,))[1:], [f"image 1: {lost}"])
-        self.assertEqual(self.said(six, alone=(1, 3))[1:], [f"images 1, 3: {lost}, as the other part of a RAID 60 with images 5, 6, 7 may have"])
+        self.assertEqual(self.said(six, alone=(1, 3))[1:], [f"images 1, 3: {lost}, such as the other part of a RAID 60 with images 5, 6, 7"])
         self.assertEqual(self.said(six, alone=(1, 3, 4))[1:], [f"images 1, 3, 4: {lost}"])
 
     def test_level_6_or_5(self) -> None:
         """Few ties with weights besides 1 are of level 6 with two disks lost, or of level 5 with one: both are said."""
         few = Family((0, 1, 2), 40, 8, 900, "6", 0)
-        self.assertEqual(self.said(few), ["images 0, 1, 2: tied in 40 rows alone of those that were looked at, as where the lost disks hold zeros: "
-                                          "level 6 of which 2 disks of 5 are lost, or level 5 of which 1 of 4 is"])
-        self.assertEqual(self.said(dataclasses.replace(few, level="5")), ["images 0, 1, 2: tied as by parity of level 5, 1 disk of 4 is lost"])
-        self.assertEqual(self.said(dataclasses.replace(few, parity=1)), ["images 0, 1, 2: tied as by parity of level 6, 1 disk of 4 is lost"])
+        self.assertEqual(self.said(few), ["images 0, 1, 2: RAID 6 with 2 of 5 disks missing, or RAID 5 with 1 of 4. Parity matches in only 40 rows "
+                                          "of those "
+                                          "sampled, perhaps because the missing disks hold zeros in these"])
+        self.assertEqual(self.said(dataclasses.replace(few, level="5")), ["images 0, 1, 2: parity matches RAID 5, 4 disks, 1 missing"])
+        self.assertEqual(self.said(dataclasses.replace(few, parity=1)), ["images 0, 1, 2: parity matches RAID 6, 4 disks, 1 missing"])
 
     def test_copies(self) -> None:
         """Copies are said, and that a copy is lost."""
@@ -190,7 +228,7 @@ class Told(unittest.TestCase):
         made = [[one, one, other] for one, other in ((rows.sector(rnd), rows.sector(rnd)) for _ in range(100))]
         runner, images = disks(made)
         self.assertEqual(ties.lines(Ties(runner, images, 9).told(range(3), 0, 100)),
-                         ["images 0 and 1 hold the same", "image 2: tied to nothing; its copy is lost, or it is foreign, zeros or damaged"])
+                         ["images 0 and 1 hold the same data", "image 2: matches nothing. Its copy is missing, or it is no member, zeros or damaged"])
 
 
 class UnlikeOffsets(unittest.TestCase):
@@ -226,7 +264,7 @@ class UnlikeOffsets(unittest.TestCase):
         assert self.known
         self.assertEqual((self.known.family.level, self.known.family.parity, self.known.begin), ("5", 1, 0))
         self.assertEqual(unlike.Unlike(self.starts, self.known).line(),
-                         "the data begin at unlike sectors of the images, at which parity ties them: 16, 16, 64, 32")
+                         "the data begin at different sectors of the images; parity matches at these: 16, 16, 64, 32")
 
     def test_other_volumes_before_each(self) -> None:
         """Where an image begins to hold something tells nothing where other volumes come before: parity tells where the data begin."""

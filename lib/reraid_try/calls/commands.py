@@ -12,6 +12,8 @@ from collections.abc import Callable, Sequence
 from typing import Protocol, TextIO
 
 from ..errors import OutsideError, Refused, Stopped, said
+from . import meter as meters
+from .meter import Meter
 
 Words = Sequence[str | int]
 Child = subprocess.Popen[bytes]
@@ -25,12 +27,14 @@ FIRST_LOOK, NEXT_LOOK = 1.0, 0.5
 
 @dataclasses.dataclass(frozen=True)
 class Answer:
-    """What a command gave: its status (None where its time was up), its output, its standard error and its seconds."""
+    """What a command gave: its status (None where its time was up, or it was ended since it had read too much, which `full` says), its output, its
+    standard error and its seconds."""
 
     status: int | None
     data: bytes = b""
     error: str = ""
     seconds: float = 0
+    full: bool = False
 
     @property
     def out(self) -> str:
@@ -46,7 +50,7 @@ class Answer:
 def refused(answer: Answer, command: str) -> Refused:
     """What is raised where the program refused a command: its line, and what helps where an image cannot be read."""
     said_by = answer.error.strip() or f"reraid {command} ended with status {answer.status}"
-    return Refused(f"{said_by} (copy it with ddrescue, whose map says what is lost)" if answer.status == READ_FAULT else said_by)
+    return Refused(f"{said_by} (copy it with ddrescue: its mapfile lists what is unreadable)" if answer.status == READ_FAULT else said_by)
 
 
 class Runner(Protocol):
@@ -127,8 +131,8 @@ class Commands:
         """Runs one command over a text."""
         return self.shell([words], text, seconds)
 
-    def shell(self, pipeline: Sequence[Words], text: str | None = None, seconds: float | None = None) -> Answer:
-        """Runs commands of which each reads what the one before it puts. The status is the first that is not 0."""
+    def shell(self, pipeline: Sequence[Words], text: str | None = None, seconds: float | None = None, meter: Meter | None = None) -> Answer:
+        """Runs commands of which each reads what the one before it puts. The status is the first that is not 0. They are ended at a meter's bound."""
         line = " | ".join(quoted(words) for words in pipeline)
         began = time.monotonic()
         try:
@@ -138,10 +142,14 @@ class Commands:
             return Answer(NOT_THERE, error=str(error))
         if self.progress:
             threading.Thread(target=self.watch, args=(children[0], pipeline[0], began), daemon=True).start()
+        full = threading.Event()
+        if meter:
+            threading.Thread(target=end_full, args=(children, meter, full), daemon=True).start()
         status, out, errors = self.finish(children, text, seconds)
         took = time.monotonic() - began
+        status = None if full.is_set() else status
         self.note(line, status, took)
-        return Answer(status, out, errors, took)
+        return Answer(status, out, errors, took, full.is_set())
 
     def begin(self, pipeline: Sequence[Words]) -> list[Child]:
         """Starts the commands, each in a process group of its own; where one cannot be started those before it are ended."""
@@ -235,6 +243,16 @@ def end_late(children: Sequence[Child], flag: threading.Event) -> None:
     if any(child.poll() is None for child in children):
         flag.set()
         end(children)
+
+
+def end_full(children: Sequence[Child], meter: Meter, flag: threading.Event) -> None:
+    """Ends these commands where a meter is over its bound while they run."""
+    while any(child.poll() is None for child in children):
+        if meter.is_over:
+            flag.set()
+            end(children)
+            return
+        time.sleep(meters.NEXT_LOOK)
 
 
 def close(child: Child) -> None:

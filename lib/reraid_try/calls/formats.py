@@ -1,4 +1,4 @@
-"""The lines that `reraid` puts, as docs/FORMATS.md states them: pages, checks, classes, losses, and its refusals by their status."""
+"""The lines that `reraid` puts, as docs/COMMANDS.md and STATUSES.md state them: pages, checks, classes, losses, and refusals by their status."""
 
 import dataclasses
 import re
@@ -9,6 +9,7 @@ PASSED = re.compile(r"(\d+) ((?:\d+|(?:near|far|offset)[2-4]):\S+)")
 NEXT = re.compile(r"next (\d+) of (\d+)")
 UNSOUND = re.compile(r"unsound (\d+) of (\d+)")
 GROUP = re.compile(r"group (\d+) (\w+) (?:none|origin (\d+) fits (\d+) misfits (\d+))")
+LOST = re.compile(r"lost (\d+) (\d+)")
 GOOD = re.compile(r"good (\d+) of (\d+)")
 # Status 6: the first rank is past the total, which the line says.
 PAST_TOTAL = 6
@@ -116,6 +117,11 @@ def read_check(answer: Answer) -> Checked | None:
 def read_classes(answer: Answer) -> list[int]:
     """The numbers of the classes of sets, in their order, by what `classes` put."""
     return [int(line.split()[0]) for line in answer.out.splitlines() if not line.startswith("classes ")]
+
+
+def read_lost_runs(answer: Answer) -> list[tuple[int, int]]:
+    """Return the lost runs of sectors of a volume, each as its first sector and how many they are, by what `salvage form=lost` put."""
+    return [(int(match[1]), int(match[2])) for match in map(LOST.fullmatch, answer.out.splitlines()) if match]
 
 
 def read_lost(answer: Answer) -> tuple[int, int] | None:

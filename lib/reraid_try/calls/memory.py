@@ -16,8 +16,9 @@ from collections.abc import Mapping, Sequence
 from typing import Any
 
 from ..errors import OutsideError, said
-from .commands import Answer, Runner, Words, quoted
+from .commands import Answer, Commands, Runner, Words, quoted
 from .formats import PAST_TOTAL
+from .meter import Meter
 
 FORMAT = 1
 # What is asked of `reraid` and answered in text; volumes themselves are not kept.
@@ -269,3 +270,16 @@ class Remembering:
     def note(self, line: str, status: int | None = 0, seconds: float = 0) -> None:
         """Keeps a command with its status in the log."""
         self.commands.note(line, status, seconds)
+
+
+def direct(commands: Runner) -> Runner:
+    """Who runs commands whose answers are kept for no other run, as those about files that are there in this run alone."""
+    return commands.commands if isinstance(commands, Remembering) else commands
+
+
+def bounded(commands: Runner, pipeline: Sequence[Words], seconds: float, meter: Meter | None) -> Answer:
+    """Runs commands that are ended where a meter is over its bound, of which each reads what the one before it puts."""
+    runner = direct(commands)
+    if meter and isinstance(runner, Commands):
+        return runner.shell(pipeline, None, seconds, meter)
+    return commands.shell(pipeline, None, seconds)

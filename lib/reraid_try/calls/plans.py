@@ -78,7 +78,7 @@ class Group:
 
     def name(self) -> str:
         """What it is called in a report."""
-        return f"group {self.place} ({self.kind}, {counted(len(self.marks), 'mark')})"
+        return f"landmark group {self.place} ({self.kind}, {counted(len(self.marks), 'landmark')})"
 
 
 @dataclasses.dataclass(frozen=True)

@@ -6,7 +6,7 @@ from collections.abc import Sequence
 
 from ..units import counted, listed
 from . import formats
-from .commands import Runner, refused
+from .commands import Answer, Runner, refused
 from .formats import Checked, Page, Ranked
 from .plans import Plan
 from .sets import NEAR_2, Copying, Word
@@ -30,8 +30,8 @@ class Listing:
 
     def line(self) -> str:
         """What is said of it."""
-        total = "" if self.total is None else f" of {self.total}"
-        return f"{counted(len(self.sets), 'set')}{total}" + (f" ({self.note})" if self.note else "")
+        count = counted(len(self.sets), "layout") if self.total is None else f"{len(self.sets)} of {counted(self.total, 'layout')}"
+        return f"{count} {'passes' if len(self.sets) == 1 else 'pass'}" + (f" ({self.note})" if self.note else "")
 
 
 @dataclasses.dataclass(frozen=True)
@@ -101,7 +101,7 @@ class Program:
 
     def late_note(self) -> str:
         """What is said where its time was up."""
-        return f"its time of {self.seconds} s was up before all were looked at"
+        return f"timed out after {self.seconds} s, before all were tested"
 
     def check(self, word: str, plan: Plan) -> Checked | None:
         """What `check` says of a set; None where it was refused, or its time was up."""
@@ -131,7 +131,15 @@ class Program:
             raise refused(answer, "mirrors")
         return formats.read_page(answer)
 
+    def ask_lost(self, word: str, end: int, maps: str) -> Answer:
+        """Return what `salvage` says of what is lost of a volume by these maps."""
+        return self.commands.run(["reraid", "salvage", f"set={word}", "form=lost", f"end={end}", "--", *self.names], maps, self.seconds)
+
     def lost(self, word: str, end: int, maps: str) -> tuple[int, int] | None:
         """How many sectors of a volume are lost by these maps, of how many; None where that was refused, or took too long."""
-        words = ["reraid", "salvage", f"set={word}", "form=lost", f"end={end}", "--", *self.names]
-        return formats.read_lost(self.commands.run(words, maps, self.seconds))
+        return formats.read_lost(self.ask_lost(word, end, maps))
+
+    def lost_runs(self, word: str, end: int, maps: str) -> list[tuple[int, int]]:
+        """Return the lost runs of sectors of a volume by these maps; nothing if that was refused, or took too long."""
+        answer = self.ask_lost(word, end, maps)
+        return formats.read_lost_runs(answer) if answer.good else []

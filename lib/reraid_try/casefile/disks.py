@@ -13,6 +13,9 @@ from .strips import CELLS
 PARTS, MOST_TOGETHER = 4, 6
 KINDS = ("gpt", "ntfs", "xfs", "btrfs", "lvm", "ext")
 LOWER, UPPER, MIDDLE, TICKS = "M0 7h22v7h-22z", "M0 0h22v7h-22z", "M6 0h10v14h-10z", "M7 0V14M15 0V14"
+# Why sectors count as unread.
+BY_MAP = "by the ddrescue mapfile"
+BY_TEXT = "inferred: a repeated text is there, and parity is not consistent in it; no mapfile lists it"
 # The least height of a bar of something.
 LEAST = 12
 
@@ -31,6 +34,7 @@ class Disks:
         self.longest = max((it["sectors"] for it in self.images), default=1)
         self.strips = {it["image"]: it for it in record.of("strip")}
         self.hashes = {it["image"]: it for it in record.of("hash")}
+        self.files = {it["image"]: it["files"] for it in record.of("files")}
         self.relations = record.last("relations")
         found = {it["kind"] for it in record.of("marks") if it["marks"]}
         self.kinds = [*(kind for kind in KINDS if kind in found), *sorted(found - set(KINDS))]
@@ -46,13 +50,15 @@ class Disks:
         items = []
         if self.strips:
             how = min(it["looks"] for it in self.strips.values())
-            seen = f"each of {CELLS} parts was looked at in {how} places" if how else "all of it was read"
-            items.append((box("data", LOWER), f"data: the higher, the more is not zeros ({seen}); empty: zeros"))
-        if any(self.unread(it) for it in self.images):
-            items.append((box("unread", MIDDLE), "unread, by the map of ddrescue"))
+            seen = f"each of {CELLS} parts was sampled in {how} places" if how else "all of it was read"
+            items.append((box("data", LOWER), f"data: the height shows how much is non-zero ({seen}); empty: zeros"))
+        damaged = [it for it in self.images if self.unread(it)]
+        if damaged:
+            ways = dict.fromkeys(BY_TEXT if self.inferred(it) else BY_MAP for it in damaged)
+            items.append((box("unread", MIDDLE), f"unread: {'; or '.join(ways)}"))
         if self.relations:
-            items += [(box("tied", LOWER), "tied: in these rows the image and others tell one another, as the members of an array do"),
-                      (box("untied", UPPER), "untied: it has data there, and the others do not tell it; empty: zeros, or not looked at")]
+            items += [(box("tied", LOWER), "matched: in these rows, parity matches the image and others, as with the members of an array"),
+                      (box("untied", UPPER), "unmatched: it has data there, and parity does not match them; empty: zeros, or not sampled")]
         items += [(box(f"tick {kind}", TICKS), f"{kind}: landmarks") for kind in self.kinds]
         return legend(items)
 
@@ -63,28 +69,35 @@ class Disks:
         drawn = "".join(drawing.lane(lane, image["sectors"], self.longest) for lane in lanes if lane)
         drawn += drawing.axis(scale(self.longest)) if drawn else ""
         told = "; ".join(self.known(image))
-        return f'<div class="disk"><h3>image {number}: {text(image["name"])}</h3>{soft(text(told))}{self.hash_of(number)}{drawn}</div>'
+        about = soft(text(told)) + self.files_of(number) + self.hash_of(number)
+        return f'<div class="disk"><h3>image {number}: {text(image["name"])}</h3>{about}{drawn}</div>'
 
     def known(self, image: Event) -> Iterable[str]:
         """What is known of an image."""
         yield f"{image['sectors']:,} sectors, {size(image['sectors'] * SECTOR)}"
         if image.get("rest"):
-            yield f"and {image['rest']} bytes that are no whole sector"
+            yield f"and {image['rest']} bytes after the last whole sector"
         if image.get("container"):
             yield f"in a container: {image['container']}"
-        yield "nothing but zeros" if image.get("first") is None else f"data from sector {image['first']:,} to {image['last']:,}"
+        yield "nothing but zeros" if image.get("first") is None else f"non-zero from sector {image['first']:,} to {image['last']:,}"
         if image.get("table"):
             yield f"{'its own' if image.get('own') else 'at its start a'} {image['table']}"
         if image.get("like") is not None:
             yield f"the same as image {image['like']}"
         if image.get("map"):
-            yield f"map: {image['map']}"
+            yield f"mapfile: {image['map']}" + (f", SHA-256 {image['map_sha256']}" if image.get("map_sha256") else "")
+
+    def files_of(self, number: int) -> str:
+        """Return the files of an image, with their bytes and when they were changed last."""
+        told = (f"file {it['name']}: {it['bytes']:,} bytes, " + (f"changed last {it['changed']}" if it["changed"] else "a block device")
+                for it in self.files.get(number, []))
+        return "".join(soft(text(line)) for line in told)
 
     def hash_of(self, number: int) -> str:
         """The digest of an image, or why there is none."""
         found = self.hashes.get(number)
         if not found:
-            return ""
+            return soft("SHA-256: not computed (--hash computes it)")
         return soft(f"SHA-256 {code(found['sha256'])} of {found['bytes']:,} bytes" if found["sha256"] else f"SHA-256: {text(found['why'])}")
 
     def data(self, number: int) -> Lane | None:
@@ -101,11 +114,16 @@ class Disks:
         found: list[list[int]] = self.strips.get(image["number"], {}).get("unread", [])
         return found
 
+    def inferred(self, image: Event) -> bool:
+        """What counts as unread of an image is not said by a map: it has texts in its place."""
+        return bool(self.strips.get(image["number"], {}).get("inferred"))
+
     def unread_lane(self, image: Event) -> Lane | None:
         """What could not be read."""
         runs = self.unread(image)
         bars = tuple(Bar(first, first + count, "unread") for first, count in runs)
-        return Lane("unread", f"unread: {sum(count for _, count in runs)} sectors", bars) if runs else None
+        why = BY_TEXT if self.inferred(image) else BY_MAP
+        return Lane("unread", f"unread: {sum(count for _, count in runs)} sectors, {why}", bars) if runs else None
 
     def marks(self, kind: str, number: int) -> Lane:
         """The landmarks of a kind on an image."""
@@ -129,7 +147,7 @@ class Disks:
             bars += [Bar(first, last, "tied", low)] if low else []
             bars += [Bar(first, last, "untied", high, HEIGHT - high)] if high else []
         sums = [sum(it[kind] for it in counts.values()) for kind in (0, 1)]
-        return Lane("tied", f"tied in {sums[0]} rows, untied with data in {sums[1]}", tuple(bars))
+        return Lane("parity", f"parity matches in {sums[0]} rows, data without a match in {sums[1]}", tuple(bars))
 
     def in_words(self) -> str:
         """What the relations of all rows have in common."""
@@ -137,8 +155,8 @@ class Disks:
         if not told:
             return ""
         together = told["together"]
-        rows = [f"images {', '.join(map(str, it['images']))} stand together in {counted(it['rows'], 'row')}" for it in together[:MOST_TOGETHER]]
-        rows += [f"{len(together) - MOST_TOGETHER} more sets of images stand together in fewer rows"] if len(together) > MOST_TOGETHER else []
-        rows += [f"in no tie of any row: images {', '.join(map(str, told['alone']))}"] if told["alone"] else []
-        rows += [f"{told['free']} of {told['total']} rows that were looked at have no tie; rows of zeros count as such"] if told["total"] else []
-        return soft("How the images depend on one another in all rows that were looked at:") + bullets(rows)
+        rows = [f"images {', '.join(map(str, it['images']))} match in {counted(it['rows'], 'row')}" for it in together[:MOST_TOGETHER]]
+        rows += [f"{len(together) - MOST_TOGETHER} more combinations of images match in fewer rows"] if len(together) > MOST_TOGETHER else []
+        rows += [f"parity matches nothing in any row: images {', '.join(map(str, told['alone']))}"] if told["alone"] else []
+        rows += [f"{told['free']} of {told['total']} sampled rows match nothing; rows of zeros count as such"] if told["total"] else []
+        return soft("Which images parity matches, over all sampled rows:") + bullets(rows)

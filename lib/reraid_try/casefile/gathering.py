@@ -1,6 +1,5 @@
 """What a page needs beside what the run says anyway: strips, digests, relations, landmarks, where parity holds, and what was not tried."""
 
-import contextlib
 import dataclasses
 import os
 import time
@@ -13,18 +12,20 @@ from ..evidence.images import Image
 from ..evidence.maps import Map
 from ..evidence.relations import Relations
 from ..evidence.ties import MOST_ROWS, Ties
+from ..opening import Opened
 from ..options import LEVELS, Options
 from ..policy.search import Search
 from ..report.report import Report
 from ..units import ALL, MIB, SECTOR, counted
 from . import host, page, regions, strips
 from .strips import Hashing, Strip
+from .writing import PageFile
 
 # So many landmarks of a kind on an image are drawn; more are thinned out.
 MOST_MARKS = 2000
 # What this search knows nothing of.
-UNKNOWN = "not searched at all: RAID 10 with near and far copies at once or in far sets, RAID 50 and 60 as one array, RAID 5E and the like, " \
-          "arrays in mid-reshape, RAID 0 over disks of unlike size"
+UNKNOWN = "not searched at all: RAID 10 with near and far copies at once or with far_sets, RAID 50 and 60 as one array. Also not: RAID 5E and the " \
+          "like, arrays in mid-reshape, RAID 0 over disks of unequal size"
 
 
 def length_of(name: str) -> int:
@@ -54,19 +55,16 @@ class Casefile:
         self.options, self.report, self.commands = options, report, commands
         self.began = time.monotonic()
         self.hashing: Hashing | None = None
-        self.written = False
-        if options.report:
-            # What cannot be written is known before an hour of work.
-            try:
-                with open(options.report, "x", encoding="utf-8"):
-                    pass
-            except OSError as error:
-                raise OutsideError(f"--report {options.report} cannot be written: {said(error)}") from error
+        self.file = PageFile(options.report) if options.report else None
         if options.report or options.as_json:
-            report.tell("run", **host.fields(words))
+            report.tell("run", **host.fields(words), case=options.case, examiner=options.examiner)
 
-    def begin(self, names: Sequence[str]) -> None:
-        """The digests of the images, in the background of what follows."""
+    def begin(self, names: Sequence[str], opened: Sequence[Opened] = ()) -> None:
+        """The files of the images as they are now, and their digests, in the background of what follows."""
+        parts = {it.path: it.container.parts for it in opened}
+        if self.options.report or self.options.as_json:
+            for number, name in enumerate(names):
+                self.report.tell("files", image=number, files=[host.file_fields(part) for part in parts.get(name, (name,))])
         if self.options.hashes:
             lengths = [length_of(name) for name in names]
             named = [(number, name, length) for number, (name, length) in enumerate(zip(names, lengths))]
@@ -76,7 +74,7 @@ class Casefile:
         """All that is left to be told at the end of a run, and the page. `ended` says that the run was told to end."""
         if self.hashing:
             self.digests(self.hashing, search.images, ended)
-        if not self.options.report:
+        if not self.file:
             return
         if search.images:
             self.strips(search.images, ended)
@@ -85,39 +83,22 @@ class Casefile:
             if not ended:
                 self.relations(search.images)
                 self.parity(search)
+                self.lost_files(search)
             for line in left_out(search, ended):
                 self.report.tell("not tried", line)
         self.report.tell("finished", ended=host.now(), seconds=int(time.monotonic() - self.began), status=status)
-        self.write()
-
-    def write(self) -> None:
-        """The page, whole or not at all."""
-        name = self.options.report or ""
-        part = f"{name}.part"
-        try:
-            with open(part, "w", encoding="utf-8", errors="surrogateescape") as file:
-                file.write(page.page(self.report.record))
-                file.flush()
-                os.fsync(file.fileno())
-            os.replace(part, name)
-        except OSError as error:
-            raise OutsideError(f"--report {name} cannot be written: {said(error)}") from error
-        self.written = True
-        self.report.say("page", f"{name} has all of it", page=name)
+        self.file.write(page.page(self.report.record))
+        self.report.say("page", f"{self.file.name} is the report", page=self.file.name)
 
     def close(self) -> None:
-        """Ends what goes on in the background; where there is no page, its file is taken away."""
+        """Ends what goes on in the background."""
         if self.hashing:
             self.hashing.end()
-        if self.options.report and not self.written:
-            for name in (self.options.report, f"{self.options.report}.part"):
-                with contextlib.suppress(OSError):
-                    os.remove(name)
 
     def digests(self, hashing: Hashing, images: Sequence[Image], ended: bool) -> None:
         """Waits for the digests, and says them; where the run was told to end those that are known."""
         while not ended and not hashing.wait(1):
-            self.report.bar.show("takes the digests of the images, MiB", hashing.done // MIB, hashing.total // MIB)
+            self.report.bar.show("computes the hashes of the images, MiB", hashing.done // MIB, hashing.total // MIB)
         hashing.end()
         for it in hashing.found:
             name = next((image.called for image in images if image.number == it.image), "")
@@ -130,15 +111,15 @@ class Casefile:
         read_wholly = {it.image: it.strip for it in self.hashing.found if it.strip} if self.hashing else {}
         small = not quick and sum(image.sectors for image in images) * SECTOR <= strips.SMALL
         for number, image in enumerate(images, 1):
-            self.report.bar.show("looks where images hold data", number, len(images))
+            self.report.bar.show("looks for the places of data on the images", number, len(images))
             strip = read_wholly.get(image.number) or looked_at(image, cell, small)
             if strip:
                 self.report.tell("strip", image=image.number, cell=strip.cell, filled=strip.filled, looks=strip.looks,
-                                 unread=unread(image.unread, image.sectors))
+                                 unread=unread(image.unread, image.sectors), inferred=image.map is None)
 
     def relations(self, images: Sequence[Image]) -> None:
         """How the images depend on one another, row by row; nothing where that is not to be had."""
-        self.report.bar.show("asks for the relations of rows")
+        self.report.bar.show("tests which images parity matches")
         end = min(image.sectors for image in images)
         step = max(1, -(-end // MOST_ROWS))
         found = Ties(self.commands, images, self.options.seconds).relations([image.number for image in images], 0, end, step)
@@ -156,11 +137,19 @@ class Casefile:
     def parity(self, search: Search) -> None:
         """Where parity holds for the best candidates."""
         for number, it in search.best_told():
-            self.report.bar.show(f"asks where parity holds for class {number}")
+            self.report.bar.show(f"tests parity region by region for candidate {number}")
             found = regions.regions(it, self.options.jobs)
             if found:
                 told: dict[str, Any] = {"class": number, "set": it.word.text, "regions": [dataclasses.asdict(one) for one in found]}
                 self.report.tell("parity", how=regions.told(found), **told)
+
+    def lost_files(self, search: Search) -> None:
+        """The files of the best candidate's volume that touch what is lost."""
+        for number, it in search.best_told()[:1]:
+            self.report.bar.show(f"looks for files of candidate {number} that touch lost sectors")
+            for found in search.tests.lost_files(it):
+                self.report.tell("lost files", f"candidate {number}: {found.text()}", **{"class": number, "set": it.word.text, "where": found.where,
+                                 "sectors": found.sectors, "files": list(found.files)})
 
 
 def fields(found: Relations) -> dict[str, Any]:
@@ -186,31 +175,31 @@ def left_out(search: Search, ended: bool) -> Iterator[str]:
     options = search.options
     longest = max(image.sectors for image in search.images) * SECTOR
     if options.first < min(longest, ALL):
-        yield f"of each image the first {options.first // MIB} MiB alone were searched for landmarks, of {longest // MIB} MiB of the longest one"
+        yield f"only the first {options.first // MIB} MiB of each image were searched for landmarks; the longest image has {longest // MIB} MiB"
     if ended:
-        yield "the run was ended before it came to its end; what would have come behind is not known"
+        yield "the run was interrupted; all later steps are missing"
     yield from shapes_left(search)
-    if not ended and not any(len(hunt.evidence.images) == len(search.images) for hunt in search.hunts):
+    if not ended and search.hunts and not any(len(hunt.evidence.images) == len(search.images) for hunt in search.hunts):
         yield "the search over all images together, since what was found before it was enough"
     left = [level for level in LEVELS if level not in options.levels]
     if left:
         yield f"levels that --levels leaves out: {', '.join(left)}"
     if options.members:
-        yield f"numbers of members other than {', '.join(map(str, options.members))}, by --members"
+        yield f"numbers of disks other than {', '.join(map(str, options.members))}, because of --members"
     if search.tests.put_off:
-        yield f"{counted(len(search.tests.put_off), 'set')} that passed were put off and not looked at"
+        yield f"{counted(len(search.tests.put_off), 'layout')} that passed, deferred and then not checked"
     passed_over = sum(hunt.passed_over for hunt in search.hunts)
     if passed_over:
-        yield f"{counted(passed_over, 'trial')} passed over, since landmarks alone, or parity alone, allow no set"
+        yield f"{counted(passed_over, 'step')} skipped, since landmarks by themselves, or parity by itself, allow no layout"
     yield UNKNOWN
 
 
 def shapes_left(search: Search) -> Iterator[str]:
-    """The shapes of which there was no trial."""
+    """The shapes without a search step."""
     window = max((hunt.evidence.window for hunt in search.hunts), default=0)
     if window:
-        yield f"parity was tested over at most {counted(window, 'sector')} of each member in a trial"
+        yield f"parity was tested over at most {counted(window, 'sector')} of each disk in a step"
     shapes = dict.fromkeys(shape.line() for hunt in search.hunts for shape in hunt.shapes.tiers().all)
     left = [line for line in shapes if line not in search.shapes_tried]
     if left:
-        yield "no trial of: " + "; ".join(left)
+        yield "no search step for: " + "; ".join(left)

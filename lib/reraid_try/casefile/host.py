@@ -7,6 +7,7 @@ import pathlib
 import platform
 import re
 import shutil
+import stat
 import subprocess
 import sys
 from collections.abc import Sequence
@@ -81,6 +82,18 @@ def digest(name: str) -> str:
 def now() -> str:
     """The time, with its zone."""
     return datetime.datetime.now().astimezone().isoformat(timespec="seconds")
+
+
+def date(nanoseconds: int) -> str:
+    """Return a time of a file, with its zone."""
+    return datetime.datetime.fromtimestamp(nanoseconds // 10**9).astimezone().isoformat(timespec="seconds")
+
+
+def file_fields(name: str) -> dict[str, Any]:
+    """Return what is told of a file of an image: its name, its bytes, and when it was changed last (None of a block device)."""
+    with open(name, "rb") as file:
+        seen = os.fstat(file.fileno())
+        return {"name": name, "bytes": file.seek(0, os.SEEK_END), "changed": None if stat.S_ISBLK(seen.st_mode) else date(seen.st_mtime_ns)}
 
 
 def fields(words: Sequence[str]) -> dict[str, Any]:

@@ -11,15 +11,21 @@ from .style import STYLE
 
 # How high unsound rows are drawn at least, of HEIGHT, so that they are seen.
 LEAST_UNSOUND = 20
-ABOUT = """This page says what one run of reraid-try looked at, tried and found. It only reads images. It does not choose: what is listed passed
-the tests that are named beside it."""
-SIGNS = """++ stands where long files are whole, or the sums of all data are right, and no checker of file systems found fault; + where a checker
-alone is content, or where one sign is taken. A set with + alone may be wrong: read files before you rely on it."""
-PROVED = """Of the program reraid it is proved that a listing holds exactly the sets that pass, and that a written volume is exactly that of its
-set. The search and this page are made by a script that is tested and not proved."""
-NOT_KNOWN = """With what the program reraid was proved and built is not recorded where it was found. The search and this page are made by a script
-that is tested and not proved."""
-NO_GOOD = "<b>No candidate is told to be good.</b> What passed, if anything did, is listed below."
+ABOUT = """This page reports what one run of reraid-try read, tried and found. reraid-try only reads the images. It does not choose between
+candidates: each listed layout passed the tests that are named beside it."""
+SIGNS = """++: long files are intact or all data checksums match, and no file system checker reports errors. +: only a checker reports no errors, or
+the rating was lowered. A candidate rated + may be wrong: open files before you rely on it."""
+PROVED = """It is proved that the program reraid lists exactly the layouts that pass, and that it writes exactly the volume of a layout. The search
+and this page come from a script that is tested, and not proved."""
+NOT_KNOWN = """There is no record of the toolchain that proved and built this program reraid. The search and this page come from a script that is
+tested, and not proved."""
+NO_GOOD = "<b>No candidate was rated.</b> The layouts that passed, if any, are listed below."
+TERMS = (("layout", "RAID level, parity pattern, chunk size, data offset and disk order, as one string"),
+         ("candidate", "a layout that passed the tests, with all layouts that give the same volume"),
+         ("inconsistent row", "a row of sectors, one of each disk, in which the parity is wrong"),
+         ("landmark", "a sector that states its place in the volume, such as a superblock"),
+         ("relaxed", "the tests that were made weaker before the layout passed"),
+         ("intact file", "a file that its own format shows to be complete"))
 HEAD = """<!DOCTYPE html>
 <html lang="en">
 <head>
@@ -31,13 +37,15 @@ HEAD = """<!DOCTYPE html>
 <body>
 """
 WHOLE = "M0 0h22v14h-22z"
-# The line behind which what is to be typed stands.
-TYPED = "to look into it, as root:"
+# The most names of files that stand in a list.
+MOST_FILES = 500
+# The lines above what is to be typed, and above what ends that.
+TYPED, ENDS = "to mount it read-only, as root:", "to undo that:"
 # The events that say what was taken from the images, and those that say what was not tried or not to its end.
 SAID = ("resume", "taken over", "fill", "place", "relation", "metadata", "copies", "unlike", "reason", "group", "hint", "pairs")
 LEFT = ("not tried", "late", "failed", "many", "put off", "doubtful", "begins")
-TRIALS = (("trial", True), ("what", False), ("why", False), ("loosened", False), ("sets", True), ("outcome", False))
-CANDIDATES = (("class", True), ("sign", False), ("set", False), ("loosened", False), ("rows and marks", False), ("in its volume", False))
+TRIALS = (("step", True), ("what", False), ("why", False), ("relaxed", False), ("layouts", True), ("outcome", False))
+CANDIDATES = (("candidate", True), ("rating", False), ("layout", False), ("relaxed", False), ("rows and landmarks", False), ("its volume", False))
 
 
 def sign(candidate: Event) -> str:
@@ -47,10 +55,11 @@ def sign(candidate: Event) -> str:
 
 
 def beside(told: str) -> tuple[list[str], list[str]]:
-    """Of what is said of a class the lines between its words and what is to be typed, and those behind that."""
-    lines = told.split("\n")[1:]
+    """Return the lines of a candidate before what is to be typed, and those after that."""
+    lines = told.split("\n")
     place = next((k for k, line in enumerate(lines) if line.strip() == TYPED), len(lines))
-    return [line.strip() for line in lines[:place]], [line.strip() for line in lines[place + 1:] if not line.startswith("    ")]
+    behind = [line.strip() for line in lines[place + 1:] if not line.startswith("    ")]
+    return [line.strip() for line in lines[:place]], [line for line in behind if line != ENDS]
 
 
 class Page:
@@ -61,17 +70,18 @@ class Page:
 
     def whole(self) -> str:
         """All of it."""
-        parts = [self.head(), self.best(), Disks(self.record).made(), self.said(), self.trials(), self.not_tried(), self.candidates(), self.nearest(),
-                 self.made_with()]
+        parts = [self.head(), self.best(), self.terms(), self.lost_files(), Disks(self.record).made(), self.said(), self.trials(), self.not_tried(),
+                 self.candidates(), self.nearest(), self.made_with()]
         title = f"reraid-try, {self.run['began']}" if self.run else "reraid-try"
         return HEAD.format(title=text(title), style=STYLE) + "\n".join(filter(None, parts)) + "\n</body>\n</html>\n"
 
     def head(self) -> str:
         """What it is, with which words and when."""
         run, done = self.run, self.record.last("finished")
-        ended = f"{done['ended']}, after {done['seconds']} s" if done else "not ended when this page was made"
+        ended = f"{done['ended']}, after {done['seconds']} s" if done else "still running when this page was made"
         ended += "; it was interrupted" if self.record.last("interrupted") else ""
-        names = listed([("command line", code(" ".join(run.get("words", [])))), ("in the folder", code(run.get("folder", ""))),
+        names = listed([("case", text(run.get("case", ""))), ("examiner", text(run.get("examiner", ""))),
+                        ("command line", code(" ".join(run.get("words", [])))), ("in the folder", code(run.get("folder", ""))),
                         ("begun", text(run.get("began", ""))), ("ended", text(ended))])
         return f"<h1>Images of an array: what was found</h1>\n{soft(text(ABOUT))}\n{names}"
 
@@ -82,20 +92,40 @@ class Page:
             if "set" not in it:
                 continue
             candidate: Event = next((one for one in self.found if one["class"] == it["class"]), {})
-            said, rest = beside(it["text"])
-            part = f"<p><b>{sign(candidate)} class {it['class']}.</b> {text(it['words'])}</p>" + "".join(f"<p>{text(line)}</p>" for line in said)
+            (head, *said), rest = beside(it["text"])
+            part = f"<p><b>{sign(candidate)} {text(head)}</b></p>" + "".join(f"<p>{text(line)}</p>" for line in said)
             lines = "\n".join(it.get("commands", []))
-            part += soft("To look into it, as root:") + f"<pre>{text(lines)}</pre>" if lines else ""
+            part += soft("To mount it read-only, as root:") + f"<pre>{text(lines)}</pre>" if lines else ""
+            ends = "\n".join(it.get("ends", []))
+            part += soft("To undo that:") + f"<pre>{text(ends)}</pre>" if ends else ""
             part += "".join(soft(text(line)) for line in rest)
             made.append(f'<div class="verdict">{part}</div>')
         if not made:
-            return f'<div class="verdict none"><p>{NO_GOOD}</p></div>'
+            return f'<div class="verdict none">{self.answer() or f"<p>{NO_GOOD}</p>"}</div>'
         return section("The best candidates", soft(text(SIGNS)), *made)
+
+    def terms(self) -> str:
+        """Return the box with the terms of this page."""
+        return section("Terms", listed([(term, text(meaning)) for term, meaning in TERMS]))
+
+    def lost_files(self) -> str:
+        """Return which files of the best volume touch what is lost."""
+        told = [(it["text"], it["files"]) for it in self.record.of("lost files")]
+        more = [[f"and {len(files) - MOST_FILES:,} more"] * (len(files) > MOST_FILES) for _, files in told]
+        made = (f"<p>{text(said)}</p>" + bullets([*files[:MOST_FILES], *rest]) for (said, files), rest in zip(told, more))
+        return section("Files that touch lost sectors", *made) if told else ""
+
+    def answer(self) -> str:
+        """What the images are if they are no array, with what to type; nothing if they may be one."""
+        found = self.record.last("answer")
+        lines = text("\n".join(found.get("commands", [])))
+        typed = soft("To mount it read-only, as root:") + f"<pre>{lines}</pre>" if lines else ""
+        return f"<p><b>{text(found['said'])}.</b></p>{typed}" if found else ""
 
     def said(self) -> str:
         """What was taken from the images before anything was tried."""
         hints = bullets(dict.fromkeys(it["text"].strip() for it in self.record.of(*SAID)))
-        return section("What the images say", hints) if hints else ""
+        return section("Evidence from the images", hints) if hints else ""
 
     def trials(self) -> str:
         """What was tried: the reasons, what was loosened, and what came of it."""
@@ -108,8 +138,8 @@ class Page:
         """What came of a trial: its note, and which candidates are of it."""
         classes = [int(it["class"]) for it in self.found if it.get("trial") == trial["number"]]
         told = [trial["note"]] if trial.get("note") else []
-        told += ["its sets were put off"] if trial["number"] in self.put_off() else []
-        told += [f"candidates: class {runs(classes)}"] if classes else ["no new candidate" if trial["listed"] else "no set passes"]
+        told += ["its layouts were deferred"] if trial["number"] in self.put_off() else []
+        told += [f"candidates: {runs(classes)}"] if classes else ["no new candidate" if trial["listed"] else "no layout passes"]
         return "; ".join(told)
 
     def put_off(self) -> set[int]:
@@ -131,23 +161,23 @@ class Page:
         """All candidates, and of the best where parity holds."""
         rest = bullets(it["text"] for it in self.record.of("rest"))
         if not self.found:
-            why = "no set passed in any trial" if self.record.last("trial") else "there was no trial"
+            why = "no layout passed in any step" if self.record.last("trial") else "there was no search step"
             return section("Candidates", rest or f"<p>None: {why}.</p>")
         rows = [(str(it["class"]), sign(it), "<br>".join(code(word) for word in (it["set"], *it.get("alike", []))),
                  text(" and ".join(it["loosened"]) or "nothing"), text(self.fits(it)), text(self.volume(it))) for it in self.found]
-        about = soft("Sets below one another give the same volume. Of marks the first number says how many fit, the second how many do not.")
+        about = soft("Layouts below one another give the same volume. Of landmarks, the first number counts matches, the second mismatches.")
         return section("Candidates", about, table(CANDIDATES, rows), rest, *(self.parity(it) for it in self.record.of("parity")))
 
     def fits(self, it: Event) -> str:
         """The unsound rows and the fits of a candidate."""
-        return ", ".join([*([f"{it['unsound']} rows unsound"] if it.get("unsound") else []), *it.get("fits", [])]) or "-"
+        return ", ".join([*([f"{it['unsound']} rows inconsistent"] if it.get("unsound") else []), *it.get("fits", [])]) or "-"
 
     def volume(self, it: Event) -> str:
         """What was found in the volume of a candidate."""
-        files = [f"{it['files_whole']} of {it['files']} files whole"] if it.get("files") else []
-        related = [f"the same volume as class {it['same']}"] if it.get("same") is not None else []
-        related += [f"class {it['inside'][0]} without its first {it['inside'][1]} rows"] if it.get("inside") else []
-        return "; ".join([*(it.get("found") or ["nothing is known"]), *files, *filter(None, [it.get("note", ""), *it.get("doubts", [])]), *related])
+        files = [f"{it['files_whole']} of {it['files']} files intact"] if it.get("files") else []
+        related = [f"the same volume as candidate {it['same']}"] if it.get("same") is not None else []
+        related += [f"candidate {it['inside'][0]} without its first {it['inside'][1]} stripes"] if it.get("inside") else []
+        return "; ".join([*(it.get("found") or ["nothing recognized"]), *files, *filter(None, [it.get("note", ""), *it.get("doubts", [])]), *related])
 
     def parity(self, it: Event) -> str:
         """Where parity holds for a candidate, region by region."""
@@ -155,11 +185,11 @@ class Page:
         end = max((region["first"] + region["rows"] for region in it["regions"]), default=1)
         bars = tuple(bar for region in regions for bar in self.region(region))
         tested, unsound = (sum(region[name] for region in regions) for name in ("tested", "unsound"))
-        told = f"{unsound:,} of {tested:,} rows that were tested are unsound, in {len(regions)} parts of the members. {it.get('how', '')}"
-        shown = legend([(box("sound", WHOLE), "sound: parity holds, as it also does of zeros"),
-                        (box("unsound", UPPER), "unsound, as high as their part, and a fifth at least")])
-        lane = Lane("parity", f"parity: {unsound} of {tested} tested rows are unsound", bars)
-        title = f"class {it['class']}: where parity holds, by sectors of the members"
+        told = f"{unsound:,} of {tested:,} tested rows are inconsistent, in {len(regions)} parts of the disks. {it.get('how', '')}"
+        shown = legend([(box("sound", WHOLE), "consistent: parity is correct, as it also is in zeros"),
+                        (box("unsound", UPPER), "inconsistent: the height shows their share, at least a fifth")])
+        lane = Lane("parity", f"parity: {unsound} of {tested} tested rows are inconsistent", bars)
+        title = f"candidate {it['class']}: consistent rows by sectors of the disks"
         return (f'<div class="disk"><h3>{text(title)}</h3>{soft(text(told))}{shown}{drawing.lane(lane, end, end)}{drawing.axis(scale(end))}</div>')
 
     def region(self, it: Event) -> list[Bar]:
@@ -171,7 +201,7 @@ class Page:
     def nearest(self) -> str:
         """The nearest sets, where none was good."""
         told = bullets(it["text"].strip() for it in self.record.of("diagnosis", "near"))
-        return section("The nearest sets", told) if told else ""
+        return section("The nearest layouts", told) if told else ""
 
     def made_with(self) -> str:
         """The versions of all that had a part in it."""

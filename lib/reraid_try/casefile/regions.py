@@ -74,4 +74,4 @@ def windowed(plan: Plan, rows: int) -> Plan:
 def told(found: Sequence[Region]) -> str:
     """How the parts were tested."""
     rows = max((it.tested for it in found), default=0)
-    return f"Of each part at most its first {rows:,} rows were tested." if any(it.tested < it.rows for it in found) else "All rows were tested."
+    return f"At most the first {rows:,} rows of each part were tested." if any(it.tested < it.rows for it in found) else "All rows were tested."

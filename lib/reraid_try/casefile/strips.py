@@ -133,7 +133,7 @@ class Hashing:
         for (number, name, sectors), size in zip(self.images, self.sizes):
             try:
                 answer = whole(name, number, sectors, self.cell, self.told)
-                self.found.append(Hashed(number, size, answer[1], "", answer[0]) if answer else Hashed(number, size, why="the run was ended before"))
+                self.found.append(Hashed(number, size, answer[1], "", answer[0]) if answer else Hashed(number, size, why="the run was interrupted"))
             except OutsideError as error:
                 self.found.append(Hashed(number, size, why=str(error)))
 

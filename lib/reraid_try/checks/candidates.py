@@ -14,9 +14,9 @@ from .verdicts import Score, Verdict
 # A set of which more than one in so many filled rows is unsound is doubtful.
 MOST_UNSOUND = 2
 # Why a set has no sign that marks speak against.
-AGAINST = "some marks speak against it, and no file that was found is whole"
+AGAINST = "some landmarks contradict it, and no file that was found is intact"
 # What is said where a volume at level 0 ends too soon and its images differ in length.
-UNEQUAL = "the images differ in length, and RAID 0 that goes on over the longer disks alone is not searched"
+UNEQUAL = "the images differ in length, and RAID 0 that continues on only the longer disks is not searched"
 # So many sets of one volume are said in words.
 MOST_ALIKE = 3
 
@@ -36,7 +36,8 @@ class Candidate:
     unsound, None where that was not asked; `doubted` says that as much speaks against it for another reason, `left_most` that a group with most of
     the marks was left out, and does not hold, `rivalled` how another candidate contradicts it that has more for itself. `rows` says in which rows
     parity holds, `old` which images in no slot belong to it and are old or damaged, `same` and `inside` which other candidates have its volume,
-    `whole` is the candidate with the images that are left out of it for their bad rows."""
+    `whole` is the candidate with the images that are left out of it for their bad rows. `unsettled` says which other set contradicts it with as much
+    for itself. Candidates whose volumes were compared byte by byte, and hold the same, have one number in `volume`."""
 
     word: Word
     rank: int
@@ -55,6 +56,8 @@ class Candidate:
     same: int | None = None
     inside: Inside | None = None
     whole: Optional["Candidate"] = None
+    unsettled: str = ""
+    volume: int | None = None
 
     @property
     def found(self) -> Verdict:
@@ -65,6 +68,8 @@ class Candidate:
     def score(self) -> Score:
         """How much speaks for its volume."""
         score = Score(self.found.score - 1) if self.lessened else self.found.score
+        if self.unsettled:
+            score = min(score, Score.CHECKED)
         return min(score, Score.KNOWN) if self.rivalled or self.spoken_against else score
 
     @property
@@ -87,9 +92,10 @@ class Candidate:
     def doubts(self) -> list[str]:
         """Why it has no sign, or one less."""
         kept = self.left_most and self.found.in_order
-        left = ["a group with most of the marks was left out"] * (self.left_most and not kept)
+        left = ["a landmark group with most landmarks was left out"] * (self.left_most and not kept)
         against = [AGAINST] * (self.spoken_against and self.found.score >= Score.CHECKED)
-        return self.found.doubts + [UNEQUAL] * self.unequal + left + against + ([self.rivalled] if self.rivalled else [])
+        others = list(filter(None, (self.rivalled, self.unsettled)))
+        return self.found.doubts + self.found.less + [UNEQUAL] * self.unequal + left + against + others
 
     @property
     def unequal(self) -> bool:
@@ -102,7 +108,7 @@ class Candidate:
     def alike_said(self) -> str:
         """The sets that its volume does not tell from it; nothing where there are none."""
         more = f" and {len(self.alike) - MOST_ALIKE} more" if len(self.alike) > MOST_ALIKE else ""
-        return f"the same volume, so not told apart: {' '.join(self.alike[:MOST_ALIKE])}{more}" if self.alike else ""
+        return f"same volume, cannot be told apart: {' '.join(self.alike[:MOST_ALIKE])}{more}" if self.alike else ""
 
     @property
     def mostly_unsound(self) -> bool:

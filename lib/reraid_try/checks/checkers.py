@@ -6,17 +6,29 @@ import shutil
 from collections.abc import Callable, Collection, Sequence
 
 from ..calls.commands import Answer, Runner
+from ..calls.memory import bounded
+from ..calls.meter import Meter
 from ..evidence import heads, tables, unread
-from ..units import MIB, SECTOR, counted
-from . import lvm, wholes
+from ..units import GIB, SECTOR, size_said
+from . import joints, lost_files, lvm, roots, spread, wholes
+from .joints import Grid
+from .lost_files import Asked, LostFiles
 from .lvm import Physical, Piece
 from .systems import LENGTH_BYTES, SYSTEMS, TOOLS, System, system_of
-from .verdicts import Finding, Score, Verdict
+from .verdicts import MANY_FILES, Finding, Score, Verdict
 from .volumes import Region, Room, Volume
 
 BLKID = "blkid"
 # A checker may take so many times as long as a trial, and files are looked for so many times as long.
 CHECKED_TIMES, FILES_TIMES = 10, 2
+# What a fault says little of, which a checker found in a volume whose end was not written.
+CUT = ", over only its first bytes, for lack of space; this tells nothing about the rest"
+# What is said of thin volumes, whose places no text of LVM2 has.
+THIN = "thin volumes, which only LVM2 reads, so intact files decide:"
+# What is said where there is no checker of a file system, and where one found only that it was not unmounted.
+UNCHECKED, MINOR = "no checker, so intact files decide", ", only that it was not unmounted, so intact files decide"
+# Long files are read at the borders of chunks for this part of the time of a trial.
+JOINTS_PART = 4
 # A volume may lack so much of a region at its end.
 MOST_LACKING = 4
 
@@ -47,16 +59,20 @@ def seen_length(system: System, told: int, there: int, lacks: int) -> int:
     return min(told, there) if system.exact and told else there
 
 
-def size_said(count: int) -> str:
-    """So many bytes, as they are said."""
-    return f"{count / MIB:.1f} MiB" if count >= MIB else counted(count, "byte")
-
-
 def put_at(path: str, first: int, data: bytes) -> None:
     """Puts bytes into a copy of a region."""
     with open(path, "r+b") as file:
         file.seek(first)
         file.write(data)
+
+
+def unended(system: System, answer: Answer | None, meter: Meter | None, images: int) -> str:
+    """What is said of a checker that did not come to its end, or was not asked; with the bound at which it was ended, of so many images."""
+    if answer is None:
+        return "not enough space to check it"
+    if answer.full and meter:
+        return f"{system.tool} stopped after {meter.most / max(1, images) / GIB:.3g} GiB of each image"
+    return f"{system.tool} took too long"
 
 
 @dataclasses.dataclass
@@ -105,19 +121,19 @@ class Checkers:
                 found.append(Region(f"at {it.first}", (Piece(it.first * SECTOR, it.count * SECTOR),)))
         return table.kind, found
 
-    def ask(self, system: System, volume: Volume, region: Region, length: int) -> Answer | None:
-        """What the checker of a region says, which sees so many bytes of it; None where there is no room for it."""
+    def ask(self, system: System, volume: Volume, region: Region, length: int, meter: Meter | None) -> Answer | None:
+        """What the checker of a region says, which sees so many bytes of it and is ended at a meter's bound; None where there is no room for it."""
         seconds = CHECKED_TIMES * self.seconds
         if system.at and length <= region.there(volume.length) and len(region.pieces) == 1:
-            return self.commands.run(system.command(volume.path, region.first), seconds=seconds)
-        if len(region.pieces) > 1 and length > self.most:
+            return bounded(self.commands, system.pipeline(volume.path, region.first), seconds, meter)
+        if (len(region.pieces) > 1 or system.writes) and length > self.most:
             return None
-        with self.room.region(volume, region, length) as path:
+        with (self.room.copied if system.writes else self.room.region)(volume, region, length) as path:
             if path is None:
                 return None
             if system.ends and path != volume.path and length > region.there(volume.length):
                 put_at(path, length - SECTOR, read_at(volume.path, region.first, SECTOR))
-            return self.commands.run(system.command(path), seconds=seconds)
+            return bounded(self.commands, system.pipeline(path), seconds, meter)
 
     def checked(self, it: Looked, region: Region, kind: str) -> tuple[Finding, list[Region]]:
         """What the checker of a region says, and the regions that were found in it."""
@@ -130,19 +146,48 @@ class Checkers:
         if system.within:
             return finding, self.held(region, system.within(head))
         if system.tool is None or system.tool not in self.there:
-            finding.said = f"no {system.tool} here" if system.tool else "encrypted" if system.opened else ""
+            finding.said = f"{system.tool} is not installed" if system.tool else "encrypted" if system.opened else UNCHECKED
             return finding, []
-        answer = self.ask(system, volume, region, seen_length(system, told, there, finding.lacks))
+        if self.is_long(volume) and (wrong := self.head_fault(volume, region, kind, there) or self.files_fault(it, region, kind)):
+            finding.clean, finding.said = False, wrong
+            return finding, []
+        meter = volume.meter(self.most if self.is_long(volume) else None)
+        answer = self.ask(system, volume, region, seen_length(system, told, there, finding.lacks), meter)
         if answer is None or answer.status is None:
-            finding.said = f"{system.tool} took too long" if answer else "no room to check it"
+            finding.said = unended(system, answer, meter, volume.images)
             it.verdict.lacked_room |= answer is None
             return finding, []
-        finding.clean = None if answer.good and system.holds else answer.good
-        finding.said = f"{system.tool} clean" if answer.good else f"{system.tool} status {answer.status}"
-        finding.said += ", the sums of all data right" if finding.summed else ""
+        undecided = answer.good and system.holds or not answer.good and (volume.cut or system.is_minor(answer.out))
+        finding.clean = None if undecided else answer.good
+        finding.said = f"{system.tool} reports no errors" if answer.good else f"{system.tool} reports errors (status {answer.status})"
+        finding.said += CUT if volume.cut and not answer.good else MINOR if undecided and not answer.good else ""
+        finding.said += ", all data checksums match" if finding.summed else ""
         behind = " and a copy of its first sector" if system.ends else ""
-        finding.said += f", with zeros{behind} for its last {size_said(finding.lacks)}, which are not there" if finding.lacks else ""
+        finding.said += f", with zeros{behind} in place of its last {size_said(finding.lacks)}, which are missing" if finding.lacks else ""
         return finding, self.inner(region, volume, answer.out, finding) if system.holds else []
+
+    def is_long(self, volume: Volume) -> bool:
+        """A volume is longer than what is read of it, so that little of it tells whether it is right before a checker reads more."""
+        return volume.length > self.most and not volume.cut
+
+    def head_fault(self, volume: Volume, region: Region, kind: str, there: int) -> str:
+        """What tells that a file system begins elsewhere, or that the volume is another one, without its checker; nothing where nothing does, or
+        where it is not in one piece."""
+        if len(region.pieces) > 1 or region.pieces[0].path:
+            return ""
+        with unread.opened(volume.path) as file:
+            return roots.fault(kind, spread.reader(file, volume.length), region.first, there)
+
+    def files_fault(self, it: Looked, region: Region, kind: str) -> str:
+        """That most of many files are broken that the tables of a file system tell of; nothing where they are not. A checker is asked only then,
+        since it may read a wrong volume for hours."""
+        if len(region.pieces) > 1 or region.pieces[0].path:
+            return ""
+        rows = it.verdict.row, it.verdict.chunk
+        told = spread.by_tables(it.volume.path, it.volume.length, (kind, region.first), rows, FILES_TIMES * self.seconds)
+        if told.found > it.verdict.files.found:
+            it.verdict.files = told
+        return "most files all over it are broken" if told.found >= MANY_FILES and 2 * told.whole < told.found else ""
 
     def held(self, region: Region, first: int) -> list[Region]:
         """What a region holds from one of its bytes on; nothing where that is not told."""
@@ -157,18 +202,21 @@ class Checkers:
         finding.own, finding.beside = own or "", tuple(self.beside(others))
         there = {it.identifier for it in finding.beside}
         finding.apart = tuple(identifier for identifier in others if identifier not in there)
-        finding.said += "".join(f"; its group is also on {it.said}" for it in finding.beside)
-        finding.said += "".join(f"; its group is also on another physical volume, {' '.join(filter(None, (it, others[it])))}" for it in finding.apart)
+        finding.said += "".join(f"; its volume group is also on {it.said}" for it in finding.beside)
+        named = (" ".join(filter(None, (it, others[it]))) for it in finding.apart)
+        finding.said += "".join(f"; its volume group is also on another physical volume, {it}" for it in named)
+        finding.thin = lvm.thin_volumes(text)
+        finding.said += f"; {THIN} {' '.join(finding.thin)}" if finding.thin else ""
         found = [Region(f"{region.name} {it.said}:".strip(), it.pieces, it.device)
                  for it in lvm.logical_volumes(text, region.first, own, finding.beside)]
         return [it for it in found if (it.pieces[0].path or it.first < volume.length) and
                 (it.there(volume.length) == it.length or lacking(it.length, it.there(volume.length)))]
 
-    def look(self, volume: Volume, origins: Sequence[int], chunk: int, row: int, files: bool = True) -> Verdict:
+    def look(self, volume: Volume, origins: Sequence[int], chunk: int, row: int, files: bool = True, period: int = 0) -> Verdict:
         """What is in a volume whose chunks, and rows of these, have so many bytes, at its start, in its partitions and at these sectors: its tables,
-        its file systems, and the files that are whole, where these are asked for."""
+        its file systems, and the files that are whole, where these are asked for. Its layout repeats after `period` chunks."""
         kind, todo = self.regions(volume)
-        notes = ["only its first bytes were looked at"] if volume.cut else []
+        notes = ["only its first bytes were read"] if volume.cut else []
         it = Looked(volume, Verdict(notes=notes, length=volume.length, chunk=chunk, row=row, lacked_room=volume.cut), todo)
         if kind:
             it.verdict.findings.append(Finding("", kind, table=True))
@@ -176,13 +224,31 @@ class Checkers:
         for place in (origin * SECTOR for origin in sorted(set(origins)) if origin * SECTOR < volume.length):
             it.todo = [Region(f"at {place // SECTOR}", (Piece(place, volume.length - place),))]
             self.look_into(it)
-        if it.verdict.findings and not it.verdict.inner:
+        if it.verdict.findings and not it.verdict.inner and not it.verdict.thin:
             last = it.verdict.findings[-1]
-            it.verdict.empty, last.said = True, f"{last.said}; nothing known in it" if last.apart else "nothing known in it"
+            it.verdict.empty, last.said = True, f"{last.said}; nothing recognized in it" if last.apart else "nothing recognized in it"
         if files and it.verdict.findings and not it.verdict.wholly_summed and not it.verdict.closed:
-            self.count_files(it)
+            self.count_files(it, period)
         it.verdict.counted = files
         return it.verdict
+
+    def lost_files(self, volume: Volume, it: Finding, lost: Sequence[tuple[int, int]]) -> LostFiles:
+        """Return the files of a file system that touch what is lost of its volume, by the tools of its kind."""
+        place = it.place or Piece(0, 0)
+        runs = lost_files.within(lost, place.first, place.length)
+        where, sectors = f"{it.region} {it.kind}".strip(), sum(end - begin for begin, end in runs) // SECTOR
+        if it.kind not in lost_files.TELLERS:
+            return LostFiles(where, sectors, note=f"the files of {it.kind} that touch them are not looked for")
+        block_of, tell, at = lost_files.TELLERS[it.kind]
+        size = block_of(read_at(volume.path, place.first, LENGTH_BYTES))
+        blocks = lost_files.blocks_of(runs, size)
+        if at:
+            found = tell(self.commands, Asked(volume.path, place.first, blocks[:lost_files.MOST_BLOCKS], size), CHECKED_TIMES * self.seconds)
+        else:
+            with self.room.region(volume, Region("", (place,)), place.length) as path:
+                asked = Asked(path or "", 0, blocks[:lost_files.MOST_BLOCKS], size)
+                found = tell(self.commands, asked, CHECKED_TIMES * self.seconds) if path else None
+        return LostFiles(where, sectors, *lost_files.told(found, len(blocks), it.kind))
 
     def look_into(self, it: Looked) -> None:
         """Looks into the regions of a volume, and into those that are found in them."""
@@ -195,10 +261,17 @@ class Checkers:
                 it.todo += inner
             it.seen.add(place)
 
-    def count_files(self, it: Looked) -> None:
-        """Counts the files that are whole, and those that may be long where the first ones do not tell."""
+    def count_files(self, it: Looked, period: int) -> None:
+        """Count the files that are whole, and those that may be long if the first ones do not tell. Of a volume that these speak for, read long
+        files at the borders of chunks. In a volume that is longer than what is read of it, count those that its tables tell of, all over it."""
         most, verdict = min(it.volume.length, self.most), it.verdict
+        if self.is_long(it.volume):
+            if not verdict.files.found and not verdict.settled:
+                verdict.files = spread.in_windows(it.volume.path, it.volume.length, FILES_TIMES * self.seconds)
+            return
         verdict.files = wholes.count(it.volume.path, 0, most, FILES_TIMES * self.seconds)
         doubted = verdict.score is Score.CHECKED or verdict.within_chunks or verdict.unchecked
         if verdict.clean and verdict.unjoined or verdict.files.more and doubted and (verdict.clean or verdict.unchecked):
             verdict.files.long = wholes.count_long(it.volume.path, most, verdict.row, verdict.chunk, self.seconds)
+        if period > 1 and verdict.whole and not verdict.summed and verdict.score is Score.WHOLE:
+            verdict.joints = joints.look(it.volume.path, most, Grid(verdict.chunk, period), self.seconds / JOINTS_PART)

@@ -7,6 +7,7 @@ from ..calls.sets import simplest
 from ..policy import cures
 from ..policy.cures import Family
 from .candidates import Candidate
+from .joints import duel
 from .verdicts import Score
 
 # So many sets of a trial are looked at without images, those with the fewest unsound rows.
@@ -16,11 +17,11 @@ TELLING = 2
 
 
 def doubted(tested: Sequence[Candidate], mapped: bool) -> list[Candidate]:
-    """The candidates of a trial that have unsound rows, but not most, and can lose an image: those alone of which parity tells the images, where one
-    is whole already; none then where maps say what could not be read."""
+    """The candidates of a trial that have unsound rows, but not most, and can lose an image: those that are whole, where one is; none then where maps
+    say what could not be read."""
     found = [it for it in tested if it.unsound and not it.mostly_unsound and it.listed and len(it.word.offsets) == 1 and it.word.spare > 0]
     if any(it.score is Score.WHOLE for it in tested):
-        found = [it for it in found if it.word.spare == TELLING and it.score is Score.WHOLE and not mapped]
+        found = [it for it in found if it.score is Score.WHOLE and not mapped]
     return sorted(found, key=lambda it: (it.unsound or 0, it.order))[:MOST_SETS]
 
 
@@ -34,6 +35,12 @@ def is_sounder(candidate: Candidate, whole: Candidate) -> bool:
     """A set with unsound rows has none without an image, though parity still tells, and as much speaks for its volume then: what that image has is
     wrong in these rows."""
     return bool(whole.unsound) and candidate.unsound == 0 and candidate.word.spare > 0 and candidate.found.score >= whole.found.score
+
+
+def is_better(candidate: Candidate, whole: Candidate) -> bool:
+    """More speaks for a set without an image than with it: its volume, its parity, or the files that both have."""
+    by_files = duel(whole.found.joints, candidate.found.joints).second_wins
+    return candidate.found.gain > whole.found.gain or is_sounder(candidate, whole) or by_files and candidate.found.score >= whole.found.score
 
 
 def lesser(candidate: Candidate, images: frozenset[int]) -> Candidate:

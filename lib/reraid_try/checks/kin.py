@@ -8,6 +8,7 @@ from ..calls.sets import LAST_Q, STAYS, Word, simplest
 from ..evidence.images import Image
 from ..policy.plans import LEAST_BAD, MOST_BAD
 from ..units import SECTOR, counted
+from . import rivals
 from .candidates import Candidate, Inside
 from .damage import is_sounder
 from .verdicts import Score
@@ -18,10 +19,10 @@ FIXED = ("plain", "parity-first", "parity-last")
 BY_SLOT = "by-slot"
 PLAIN = ("0", "plain", "none")
 # Why a set has no sign beside another one.
-CONTENT = "another set of these images, which contradicts it, has long whole files"
-BROKEN = "another set of these images, which contradicts it, has whole files, and of those in this one none is"
-UNSOUND = "parity holds in far fewer rows than with another set of these images, which has long whole files too"
-UNTOLD = "another set of these images, which contradicts it, has as much for itself: at most one of them is right"
+CONTENT = "another layout of these images, which contradicts it, has long intact files"
+BROKEN = "another layout of these images, which contradicts it, has intact files, and this one has none"
+UNSOUND = "parity is consistent in far fewer rows than with another layout of these images, which has long intact files too"
+UNTOLD = "another layout of these images, which contradicts it, is supported as well: at most one of them is right"
 
 
 @dataclasses.dataclass(frozen=True)
@@ -43,12 +44,19 @@ class Key:
 def in_order(tested: Sequence[Candidate], images: Sequence[Image]) -> list[Candidate]:
     """The candidates as they are printed: those with the most to say for them first, of one volume the simplest; each with the number of the first
     one that has the same volume, and of one in which its volume begins. Those have no sign beside which another one has more for itself."""
-    same = {image.number: image.number if image.like is None else image.like for image in images}
+    same = same_images(images)
     # Once is for all: such a one has a lower score then.
+    for it in tested:
+        it.unsettled = ""
     signed = [it for it in tested if it.score >= Score.CHECKED]
-    rivals = [next((told for one in signed if (told := rivalled(it, one, same))), "") for it in signed]
-    for it, told in zip(signed, rivals):
+    spoken = [next((told for one in signed if (told := rivalled(it, one, same))), "") for it in signed]
+    for it, told in zip(signed, spoken):
         it.rivalled = told
+    whole = [it for it in signed if it.score is Score.WHOLE]
+    unsettled = [next((told for one in whole if one is not it and contradict(it, one, same) and (told := rivals.unsettled(it, one))), "")
+                 for it in whole]
+    for it, told in zip(whole, unsettled):
+        it.unsettled = told
     order = sorted(tested, key=lambda it: it.place)
     keys = [key(it.word, same) for it in order]
     firsts: dict[Key, int] = {}
@@ -58,8 +66,8 @@ def in_order(tested: Sequence[Candidate], images: Sequence[Image]) -> list[Candi
     for number, it in enumerate(order):
         first = firsts.setdefault(keys[number], number)
         it.same = first if first != number else None
-        behind = ((whole, rows_behind(keys[number], keys[whole])) for whole in families[keys[number].family])
-        it.inside = next((Inside(whole, rows) for whole, rows in behind if rows), None)
+        behind = ((outer, rows_behind(keys[number], keys[outer])) for outer in families[keys[number].family])
+        it.inside = next((Inside(outer, rows) for outer, rows in behind if rows), None)
     return order
 
 
@@ -97,11 +105,14 @@ def rivalled(it: Candidate, other: Candidate, same: Mapping[int, int]) -> str:
     """How a candidate with a sign is contradicted by another one that has more for itself; nothing where it is not."""
     rows = rows_before(it, other, same)
     if rows:
-        return f"what is found in it begins behind its first {rows} rows of chunks, where the volume of another set begins"
+        return f"what is found in it begins after its first {rows} stripes, at the start of the volume of another layout"
     if other.whole is it and is_sounder(other, it):
-        return f"{counted(it.unsound or 0, 'unsound row')}, and none {other.trial.loosened[-1]}, which is old or damaged there"
+        without = other.trial.loosened[-1]
+        return f"{counted(it.unsound or 0, 'inconsistent row')}, and none {without}, which is old, damaged or from another array there"
     if other.whole is it and other.score >= it.score and other.found.files.whole > it.found.files.whole:
-        return f"{counted(it.unsound or 0, 'unsound row')}, and fewer files are whole than {other.trial.loosened[-1]}"
+        return f"{counted(it.unsound or 0, 'inconsistent row')}, and fewer files are intact than {other.trial.loosened[-1]}"
+    if rivals.are_highest(it, other) and (told := rivals.beaten(it, other)) and (contradict(it, other, same) or lesser(it, other, same)):
+        return told
     broken = it.score is Score.CHECKED and it.found.files.found > 0 and not it.found.files.longest_of_all and other.found.files.longest_of_all > 0
     if it is other or not (broken or other.score is Score.WHOLE or has_as_much(other, it)) or not contradict(it, other, same):
         return ""
@@ -141,6 +152,16 @@ def contradict(one: Candidate, other: Candidate, same: Mapping[int, int]) -> boo
     return bool(shared) and not (apart or related or is_lesser(*keys))
 
 
+def lesser(one: Candidate, other: Candidate, same: Mapping[int, int]) -> bool:
+    """One of two sets is the other without some disks."""
+    return is_lesser(key(one.word, same), key(other.word, same))
+
+
+def same_images(images: Sequence[Image]) -> dict[int, int]:
+    """Return one number for all images that hold the same."""
+    return {image.number: image.number if image.like is None else image.like for image in images}
+
+
 def is_lesser(one: Key, other: Key) -> bool:
     """Two sets are the same but for slots that are empty in one of them: what both name stands in the same slot."""
     alike = (one.layout, one.chunk, one.offsets, len(one.slots)) == (other.layout, other.chunk, other.offsets, len(other.slots))
@@ -152,5 +173,5 @@ def is_lesser(one: Key, other: Key) -> bool:
 def text(it: Candidate) -> str:
     """What is said of it; nothing for most."""
     if it.same is not None:
-        return f"the same volume as class {it.same}"
-    return f"the volume of class {it.inside.number} without its first {it.inside.rows} rows of chunks" if it.inside else ""
+        return f"the same volume as candidate {it.same}"
+    return f"the volume of candidate {it.inside.number} without its first {it.inside.rows} stripes" if it.inside else ""

@@ -7,6 +7,7 @@ from typing import Any
 
 from ..calls.memory import Fields, Memory
 from ..calls.sets import Word
+from .joints import Joints
 from .lvm import Physical, Piece
 from .verdicts import Finding, Verdict
 from .wholes import Wholes
@@ -30,12 +31,13 @@ def wholes_of(it: Mapping[str, Any]) -> Wholes:
 def finding_of(it: Mapping[str, Any]) -> Finding:
     """The region of an object."""
     return Finding(**having(it, pieces=tuple(Piece(**piece) for piece in it["pieces"]), apart=tuple(it.get("apart", ())),
-                            beside=tuple(Physical(**one) for one in it.get("beside", ()))))
+                            thin=tuple(it.get("thin", ())), beside=tuple(Physical(**one) for one in it.get("beside", ()))))
 
 
 def verdict_of(it: Mapping[str, Any]) -> Verdict:
     """The verdict of an object."""
-    return Verdict(**having(it, findings=list(map(finding_of, it["findings"])), files=wholes_of(it["files"])))
+    joints = Joints(**it["joints"]) if it.get("joints") else None
+    return Verdict(**having(it, findings=list(map(finding_of, it["findings"])), files=wholes_of(it["files"]), joints=joints))
 
 
 class Looks:

@@ -11,6 +11,8 @@ TOKEN = re.compile(r'"[^"]*"|[\w.+-]+|[{}\[\]=]')
 SEGMENT = re.compile(r"segment\d+")
 # What the label of a physical volume begins with, in one of so many sectors; where in it the identifier stands, and how many characters that has.
 LABEL, LABEL_SECTORS, IDENTIFIER, CHARACTERS = b"LABELONE", 4, 32, 32
+# What a segment of a thin volume is called.
+THIN = "thin"
 Value = str | list[str] | dict[str, "Value"]
 Folder = dict[str, Value]
 
@@ -133,6 +135,18 @@ def logical_volumes(text: str, first: int, volume: str | None = None, others: It
         return of_group(*group_of(text), first, volume, {it.identifier: it for it in others})
     except (KeyError, ValueError, IndexError, StopIteration):
         return []
+
+
+def thin_volumes(text: str) -> tuple[str, ...]:
+    """The devices that thin volumes of the group of a text are once it is active, whose parts the metadata of their pool name; none where the text is
+    none."""
+    try:
+        called, group = group_of(text)
+        bodies = folder(group.get("logical_volumes")).items()
+        thin = [name for name, body in bodies if any(it.get("type") == THIN for it in segments_of(folder(body)))]
+        return tuple(Logical(name, (), group=called).device for name in thin)
+    except (KeyError, ValueError, StopIteration):
+        return ()
 
 
 def others_of(text: str, volume: str | None) -> dict[str, str]:

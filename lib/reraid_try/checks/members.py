@@ -6,6 +6,7 @@ from collections.abc import Sequence
 from ..calls.sets import Word
 from ..evidence import maps
 from ..evidence.images import Image
+from ..evidence.maps import Map
 
 
 @dataclasses.dataclass(frozen=True)
@@ -28,7 +29,12 @@ class Members:
     @property
     def maps(self) -> str | None:
         """Their maps, as `salvage` reads them; None where there are none."""
-        return maps.maps_text([image.unread for image in self.images])
+        return maps.maps_text([unread_of(self.word, image) for image in self.images])
+
+
+def unread_of(word: Word, image: Image) -> Map | None:
+    """Return the map that counts for an image of a set. A map that nobody gave counts only if parity of the set can find what is unread."""
+    return image.unread if word.spare > 0 else image.map
 
 
 def named(word: Word, images: Sequence[Image]) -> Members:

@@ -70,7 +70,7 @@ class Near:
     def line(self, bounds: "Bounds") -> str:
         """What is said of it."""
         groups = ", ".join(group.text() for group in self.groups) or "no landmarks"
-        return f"  {self.word}: {counted(self.told.unsound, 'unsound row')} of {self.told.rows}{bounds.text()}; {groups}"
+        return f"  {self.word}: {self.told.unsound} of {self.told.rows} rows inconsistent{bounds.text()}; {groups}"
 
 
 @dataclasses.dataclass(frozen=True)
@@ -88,12 +88,12 @@ class Bounds:
 def rows_in_words(told: Checked, bounds: Bounds) -> str:
     """In which rows parity holds, with the first and the last that is unsound, where they are known."""
     if not told.unsound:
-        return f"parity holds in all {counted(told.rows, 'row')}"
-    said = f"{told.unsound} of {counted(told.rows, 'row')} unsound"
+        return f"parity is consistent in all {counted(told.rows, 'row')}"
+    said = f"{told.unsound} of {counted(told.rows, 'row')} inconsistent"
     if bounds.first is None or bounds.last is None:
         return said
     said += f", all from row {bounds.first} on" if bounds.last == told.rows - 1 else f", all in rows {bounds.first} to {bounds.last}"
-    return f"parity holds in rows 0 to {bounds.first - 1}; {said}" if bounds.first else said
+    return f"parity is consistent in rows 0 to {bounds.first - 1}; {said}" if bounds.first else said
 
 
 @dataclasses.dataclass(frozen=True)
@@ -113,8 +113,8 @@ class Old:
         since = f" from row {self.bounds.first} on" if self.bounds.first is not None else ""
         rebuilt = "; perhaps it was being rebuilt, up to there" if self.bounds.first and self.to_end else ""
         other = "" if self.blamed else ", or another image,"
-        return (f"{names[self.image]}{other} is old or damaged{since}: as slot {self.slot} parity holds with it in all rows but "
-                f"{self.told.unsound} of {self.told.rows}{rebuilt}")
+        return (f"{names[self.image]}{other} is old or damaged{since}, or from another array. In slot {self.slot}, parity is consistent with it in "
+                f"all but {self.told.unsound} of {self.told.rows} rows{rebuilt}")
 
 
 @dataclasses.dataclass(frozen=True)
@@ -128,8 +128,8 @@ class Turned:
 
     def text(self) -> str:
         """What is said of it."""
-        return (f"{counted(self.fits, 'mark')} fit before row {self.row}, and from there on {self.misfits} do not, as where a reshape stopped, or "
-                "where marks of an older array or file system stand behind that row")
+        return (f"{counted(self.fits, 'landmark')} {'matches' if self.fits == 1 else 'match'} before row {self.row}, and {self.misfits} from there "
+                "on do not. A reshape may have stopped there, or landmarks of an older array or file system follow")
 
 
 class Rows:
@@ -168,8 +168,8 @@ class Rows:
             return ""
         if word.spare < 1:
             if candidate.whole:
-                return f"with what is left out for bad rows {candidate.whole.unsound} rows are unsound in what was tested"
-            return "parity tells nothing" + (f" with {counted(word.lost, 'disk')} missing" if word.level != "0" else " at level 0")
+                return f"with what is left out for bad rows, {counted(candidate.whole.unsound or 0, 'row')} tested inconsistent"
+            return f"no parity is left to test with {counted(word.lost, 'empty slot')}" if word.level != "0" else "RAID 0 has no parity to test"
         near = Near(word.text, self.window(request))
         return rows_in_words(near.told, self.bounds(near)) if self.ask(near) else ""
 

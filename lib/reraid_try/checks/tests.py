@@ -15,10 +15,11 @@ from ..evidence.images import Image, unread_by
 from ..options import Options
 from ..report.report import Report
 from ..units import SECTOR, counted, percent
-from . import damage
+from . import damage, joints, lost_files
 from .candidates import Candidate, left_most
 from .checkers import Checkers
 from .looks import Looks
+from .lost_files import LostFiles
 from .members import Members, named
 from .verdicts import Score, Verdict
 from .volumes import Room, Source
@@ -112,8 +113,8 @@ class Tests:
         for it in damage.doubted(tested, bool(self.maps)):
             it = it if it.found.counted else self.read(it)
             lesser = [damage.lesser(it, images) for images in self.left_out(it)]
-            self.side_by_side(self.read, lesser, "looks at the candidates without damaged images")
-            found += [one for one in lesser if one.found.gain > it.found.gain or damage.is_sounder(one, it)]
+            self.side_by_side(self.read, lesser, "checks the candidates without damaged images")
+            found += [one for one in lesser if damage.is_better(one, it)]
         return found
 
     def left_out(self, candidate: Candidate) -> list[frozenset[int]]:
@@ -124,12 +125,12 @@ class Tests:
             return [frozenset({image}) for image in listed.images]
         words = [listed.without(frozenset({image})) for image in listed.images]
         counts = dict(zip(listed.images, self.side_by_side(lambda word: self.unsound_rows(candidate, word), words,
-                                                           "asks for the unsound rows without each image")))
+                                                           "counts inconsistent rows without each image")))
         blamed = damage.blamed(candidate, counts)
         if blamed:
             numbers = [candidate.hunt.evidence.images[image].number for image in blamed]
-            told = ", ".join(f"{(candidate.unsound or 0) - counts[image]} by image {number}" for image, number in zip(blamed, numbers))
-            self.report.say("blamed", f"  {candidate.word.text}: {candidate.unsound} rows are unsound, {told}", set=candidate.word.text,
+            told = ", ".join(f"{(candidate.unsound or 0) - counts[image]} because of image {number}" for image, number in zip(blamed, numbers))
+            self.report.say("blamed", f"  {candidate.word.text}: {candidate.unsound} rows inconsistent, {told}", set=candidate.word.text,
                             unsound=candidate.unsound, images=numbers)
         return [frozenset(blamed[:MOST_OUT])] if blamed else []
 
@@ -149,11 +150,12 @@ class Tests:
                 if volume is None:
                     candidate.verdict = Verdict(notes=["its volume could not be written"])
                 else:
-                    candidate.verdict = self.checks.look(volume, candidate.origins, word.chunk * SECTOR, word.row * SECTOR, files)
+                    candidate.verdict = self.checks.look(volume, candidate.origins, word.chunk * SECTOR, word.row * SECTOR, files,
+                                                         joints.period_of(word))
                     candidate.verdict.notes += self.lost(members, volume.mounted)
                     self.looks.keep(word, candidate.origins, files, candidate.verdict)
         except OSError as error:
-            candidate.verdict = Verdict(notes=[f"its volume could not be looked at: {said(error)}"])
+            candidate.verdict = Verdict(notes=[f"its volume could not be read: {said(error)}"])
         return candidate
 
     def lost(self, members: Members, mounted: bool) -> list[str]:
@@ -161,13 +163,32 @@ class Tests:
         if members.maps is None:
             return []
         if members.word.is_mirrored:
-            return ["how much its maps leave lost is not known" if mounted else "its maps are not heeded"]
+            return ["how much its maps leave lost is not known" if mounted else "its maps are ignored"]
         program = Program(self.commands, members.names, self.options.seconds, self.options.jobs)
         told = program.lost(members.word.text, members.end, members.maps)
         if told is None:
             return ["how much the maps leave lost is not known"]
         by = unread_by(members.images)
         return [f"{told[0]} of {counted(told[1], 'sector')} ({percent(*told)}) lost by {by}" if told[0] else f"nothing lost by {by}"]
+
+    def lost_files(self, candidate: Candidate) -> list[LostFiles]:
+        """Return the files of a candidate's volume that touch what is lost by the maps; nothing if nothing is lost, or of a RAID 10."""
+        members = named(candidate.word, self.images)
+        if members.maps is None or members.word.is_mirrored:
+            return []
+        end = candidate.end or members.end
+        program = Program(self.commands, members.names, self.options.seconds, self.options.jobs)
+        lost = program.lost_runs(members.word.text, end, members.maps)
+        places = [it for it in candidate.found.inner if it.place and not it.place.path]
+        inner = [it for it in places if it.place and lost_files.within(lost, it.place.first, it.place.length)]
+        if not inner:
+            return []
+        source = Source(members.word, members.names, end, members.maps)
+        try:
+            with self.room.volume(source, self.options.first * max(1, int(candidate.word.data)), WRITTEN_TIMES * self.options.seconds) as volume:
+                return [self.checks.lost_files(volume, it, lost) for it in inner] if volume else []
+        except OSError:
+            return []
 
     def tell(self, it: Candidate) -> None:
         """Says of a candidate that a checker is content with it, once."""
@@ -190,17 +211,17 @@ class Tests:
         """Tests one of each class: of many, those first that begin with something known, and the others where none of these is clean or encrypted.
         Doubtful sets, and too many, are put off."""
         if len(found) > MOST_UNTOLD and not found[0].trial.shape.parity and not self.late:
-            self.report.say("put off", f"  {len(found)} sets are too many where parity tells nothing: they are put off", sets=len(found))
+            self.report.say("put off", f"  {len(found)} layouts deferred: too many, since no parity is left to test", sets=len(found))
             self.put_off += found
             return []
         if len(found) > MOST_BEGUN:
-            self.report.say("many", f"  of {len(found)} sets the first {MOST_BEGUN} are looked at", sets=len(found))
+            self.report.say("many", f"  only the first {MOST_BEGUN} of {len(found)} layouts are checked", sets=len(found))
             found = found[:MOST_BEGUN]
         tested: list[Candidate] = []
         for part in self.parts(self.without_doubtful(found)):
             classes = in_classes(self.program, part, max(named(it.word, self.images).end for it in part))
             if len(classes) > MOST_CLASSED:
-                self.report.say("many", f"  of {len(classes)} classes the first {MOST_CLASSED} are looked at", classes=len(classes))
+                self.report.say("many", f"  only the first {MOST_CLASSED} of {len(classes)} volumes are checked", classes=len(classes))
             tested += self.looked_at(classes[:MOST_CLASSED])
             if any(it.score >= Score.CHECKED or it.found.closed for it in tested):
                 break
@@ -210,14 +231,15 @@ class Tests:
         """Looks at the volumes of these. Of many the checkers are asked first, and files are looked for where they may give a sign; elsewhere at the
         end, since they are the longer work."""
         if len(classes) <= FEW:
-            return self.side_by_side(self.read, classes, "looks at the candidates", self.tell)
-        self.side_by_side(lambda it: self.read(it, False), classes, "asks the checkers about the candidates")
-        self.side_by_side(self.read, [it for it in classes if not it.found.settled], "looks at the candidates", self.tell)
+            return self.side_by_side(self.read, classes, "checks the candidates", self.tell)
+        self.side_by_side(lambda it: self.read(it, False), classes, "runs the checkers over the candidates")
+        self.side_by_side(self.read, [it for it in classes if not it.found.settled], "checks the candidates", self.tell)
         return classes
 
     def count_late(self, tested: Sequence[Candidate]) -> None:
         """Looks for files in the volumes where that was put off, as they give no sign: in the first of these, as they are printed."""
-        left = sorted((it for it in tested if it.found.settled and not it.found.counted), key=lambda it: it.place)
+        left = sorted((it for it in tested if it.found.settled and not it.found.counted and it.found.length <= self.options.first),
+                      key=lambda it: it.place)
         self.side_by_side(self.read, left[:MOST_COUNTED], "looks for files in the candidates")
 
     def without_doubtful(self, found: list[Candidate]) -> list[Candidate]:
@@ -227,14 +249,14 @@ class Tests:
         # At level 5 parity is the same in whatever order the images stand.
         firsts: dict[Hashable, Candidate] = {}
         alike = [firsts.setdefault((it.word.offsets, frozenset(it.word.slots)) if it.word.level == "5" else it.word, it) for it in found]
-        self.side_by_side(lambda it: self.ask(it, it.trial.has_bad_rows), firsts.values(), "asks for the unsound rows of the candidates")
-        self.side_by_side(lambda it: self.ask(it, False), found, "asks for the fits of the candidates")
+        self.side_by_side(lambda it: self.ask(it, it.trial.has_bad_rows), firsts.values(), "counts the inconsistent rows of the candidates")
+        self.side_by_side(lambda it: self.ask(it, False), found, "counts the matching landmarks of the candidates")
         for it, first in zip(found, alike):
             it.doubted = it.doubted or first.mostly_unsound
         doubtful = [it for it in found if it.doubtful]
         self.put_off += doubtful
         if doubtful:
-            told = f"  {len(doubtful)} of {len(found)} sets are put off: most marks of a group, or most rows, speak against them"
+            told = f"  {len(doubtful)} of {len(found)} layouts deferred: most landmarks, or most rows, contradict them"
             self.report.say("doubtful", told, doubtful=len(doubtful), sets=len(found))
         return [it for it in found if not it.doubtful]
 
@@ -251,7 +273,7 @@ class Tests:
         known, others = [[it for it, kind in zip(found, begin) if kind == wanted] for wanted in (True, False)]
         later = bool(others and others[0].hunt.plan.groups) and not self.late
         if others and (known or later):
-            self.report.say("begins", f"  {len(known)} of {len(found)} sets begin with something known; " +
-                            ("the others are put off" if later else "these are looked at first"), known=len(known), sets=len(found))
+            self.report.say("begins", f"  {len(known)} of {len(found)} volumes begin with known contents; " +
+                            ("the others are deferred" if later else "these are checked first"), known=len(known), sets=len(found))
         self.put_off += others if later else []
         return [it for it in (known, [] if later else others[:MOST_UNKNOWN]) if it]

@@ -5,14 +5,15 @@ import enum
 from collections.abc import Sequence
 
 from ..units import SECTOR, counted, percent
+from .joints import Joints
 from .lvm import Physical, Piece
 from .systems import System, system_of
 from .wholes import Wholes
 
 # A file system that covers less than this part of its volume says little of it, and one that covers more than this part says much.
 LITTLE, MUCH = 4, 2
-# Of so many files some is whole in the right volume.
-MANY_FILES = 8
+# Of so many files some is whole in the right volume, and one in so many may be broken where all is intact.
+MANY_FILES, FEW_BROKEN = 8, 10
 
 
 class Score(enum.IntEnum):
@@ -36,7 +37,8 @@ class Finding:
     where it lies, as far as it says that it is long; `lacks` how many of its bytes lie behind the end of the volume, as zeros are put there; `told`
     and `there` how many bytes it says that it has, 0 where that is not told, and how many of the volume there are for it; `table` says that it is a
     partition table. `device` is what a logical volume is once its group is active. Of a physical volume `own` is its identifier, `beside` and `apart`
-    are the others on which volumes of its group lie: those that images have in one piece, and the identifiers of those that none has."""
+    are the others on which volumes of its group lie: those that images have in one piece, and the identifiers of those that none has; `thin` has the
+    thin volumes of its group, which are not looked at."""
 
     region: str
     kind: str
@@ -51,6 +53,7 @@ class Finding:
     own: str = ""
     beside: tuple[Physical, ...] = ()
     apart: tuple[str, ...] = ()
+    thin: tuple[str, ...] = ()
 
     @property
     def place(self) -> Piece | None:
@@ -77,7 +80,7 @@ class Finding:
         """That it says itself that it is longer than the volume; nothing where it is not, or where its checker is content with zeros at its end."""
         if self.told <= self.there or self.lacks and self.clean:
             return ""
-        return f"{self.kind} says that it has {counted(self.told // SECTOR, 'sector')}, and {self.there // SECTOR} are there"
+        return f"{self.kind} states {counted(self.told // SECTOR, 'sector')}, but only {self.there // SECTOR} are there"
 
     def text(self) -> str:
         """What is said of it."""
@@ -98,7 +101,7 @@ def covered(pieces: Sequence[Piece], length: int) -> int:
 class Verdict:
     """What was found in a volume of so many bytes: regions, files, the bytes of a chunk and of a row of chunks, and what else is said of it. `empty`
     says that nothing lies in what was found, `counted` that files were looked for, `lacked_room` that something was not looked at for want of
-    room."""
+    room. `joints` is what long files say of the order of the chunks, if they were asked."""
 
     findings: list[Finding] = dataclasses.field(default_factory=list)
     files: Wholes = dataclasses.field(default_factory=Wholes)
@@ -109,11 +112,17 @@ class Verdict:
     empty: bool = False
     counted: bool = True
     lacked_room: bool = False
+    joints: Joints | None = None
 
     @property
     def inner(self) -> list[Finding]:
         """What was found, without what it lies in."""
         return [finding for finding in self.findings if not finding.is_outer]
+
+    @property
+    def thin(self) -> list[str]:
+        """The thin volumes in it, which are not looked at: their parts lie in the pieces of a pool."""
+        return [device for finding in self.findings for device in finding.thin]
 
     @property
     def begins(self) -> int | None:
@@ -130,7 +139,7 @@ class Verdict:
     def unchecked(self) -> bool:
         """What was found has no checker, so that files alone tell: and at least half of the first ones are whole."""
         told = any(finding.clean is not None for finding in self.findings)
-        return bool(self.inner) and not told and not self.settled and 0 < self.files.found <= 2 * self.files.whole
+        return bool(self.inner or self.thin) and not told and not self.settled and 0 < self.files.found <= 2 * self.files.whole
 
     @property
     def whole(self) -> bool:
@@ -138,15 +147,39 @@ class Verdict:
         return self.files.longest_of_all > self.row and 2 * self.files.whole >= self.files.found
 
     @property
+    def torn(self) -> bool:
+        """Long files break where no whole one goes on."""
+        return self.joints is not None and self.joints.speak_against
+
+    @property
     def in_order(self) -> bool:
         """A checker is content with more than half of the volume, at least half of the first files are whole, and from each chunk of a row some whole
         file goes on into the next one, as hardly is so where chunks stand in another order."""
-        return self.score is Score.CHECKED and self.joined and 2 * self.files.whole >= self.files.found and MUCH * self.covers > self.length
+        enough = bool(self.thin) or MUCH * self.covers > self.length
+        return self.score is Score.CHECKED and self.joined and 2 * self.files.whole >= self.files.found and enough
+
+    @property
+    def is_intact(self) -> bool:
+        """Nearly all files all over a large volume are whole, and some go on from each chunk of a row into the next one: nothing more is to be
+        sought."""
+        return self.in_order and self.has_whole_files
+
+    @property
+    def has_whole_files(self) -> bool:
+        """A checker is content with more than half of the volume, and nearly all of many files are whole that tables tell of all over it."""
+        found = self.files.spread and self.files.found >= MANY_FILES and FEW_BROKEN * self.files.broken <= self.files.found
+        return found and self.score is Score.CHECKED and MUCH * self.covers > self.length
 
     @property
     def joined(self) -> bool:
         """From each chunk of a row some whole file goes on into the next one."""
         return self.files.long is not None and self.chunk > 0 and self.files.long.joined == self.row // self.chunk
+
+    @property
+    def thin_in_order(self) -> bool:
+        """Thin volumes lie in it, at least half of the first files are whole, and from each chunk of a row some whole file goes on into the next one.
+        Files that are longer than a piece of their pool are in pieces there, also in the right volume."""
+        return bool(self.thin) and self.joined and 2 * self.files.whole >= self.files.found
 
     @property
     def unjoined(self) -> bool:
@@ -195,7 +228,8 @@ class Verdict:
     def within_chunks(self) -> bool:
         """Some files are whole, but none that is longer than a chunk; others are broken. Such files are whole in whatever order the chunks stand.
         Where long files are in pieces anyway that says nothing."""
-        return not self.scattered and 0 < self.files.longest_of_all <= self.chunk and self.files.whole < self.files.found
+        broken = not self.scattered and 0 < self.files.longest_of_all <= self.chunk and self.files.whole < self.files.found
+        return broken and not self.thin_in_order
 
     @property
     def all_broken(self) -> bool:
@@ -217,12 +251,17 @@ class Verdict:
         if self.inner and LITTLE * self.covers < self.length:
             said.append(f"what was found covers {percent(self.covers, self.length)} of the volume")
         if self.within_chunks and not self.wholly_summed:
-            said.append("only files within one chunk are whole, as in any order of the chunks")
+            said.append("only files within one chunk are intact, as in any order of the chunks")
         elif self.all_broken and not self.wholly_summed:
-            said.append(f"none of {self.files.found} files is whole")
+            said.append(f"none of {self.files.found} files is intact")
         elif self.unjoined:
-            said.append("its checker reads little of it, some files are broken, and no whole one is longer than a row of chunks")
+            said.append("its checker reads little of it, some files are broken, and no intact one is longer than a stripe")
         return said
+
+    @property
+    def less(self) -> list[str]:
+        """Why what was found says less than its files alone do."""
+        return [self.joints.text()] if self.joints and self.torn and self.whole and not self.summed else []
 
     @property
     def score(self) -> Score:
@@ -232,9 +271,9 @@ class Verdict:
             return Score.NOTHING
         if self.doubts:
             return Score.KNOWN
-        if self.whole or self.summed:
+        if self.summed or self.whole and not self.torn:
             return Score.WHOLE
-        return Score.CHECKED if self.clean else Score.KNOWN
+        return Score.CHECKED if self.clean or self.thin_in_order else Score.KNOWN
 
     @property
     def gain(self) -> tuple[Score, int]:
@@ -243,6 +282,6 @@ class Verdict:
 
     def text(self) -> str:
         """What is said of the volume."""
-        said = [finding.text() for finding in self.findings] or ["nothing known"]
+        said = [finding.text() for finding in self.findings] or ["nothing recognized"]
         files = [] if self.wholly_summed or self.closed or not self.counted else [self.files.text(self.chunk, self.row)]
         return "; ".join(said + files + self.notes)

@@ -2,7 +2,7 @@
 
 import contextlib
 import dataclasses
-import fcntl
+import functools
 import hashlib
 import itertools
 import os
@@ -11,23 +11,21 @@ import subprocess
 import tempfile
 import time
 from collections.abc import Iterator, Sequence
-from typing import IO
 
+from ..calls import meter
 from ..calls.commands import Runner, quoted
+from ..calls.meter import Meter
 from ..calls.sets import Word
 from ..errors import OutsideError, said
 from ..evidence import reading, unread
 from ..units import KIB, SECTOR
+from .leftovers import LOCK, PREFIX, VARIABLE, locked, unmount
 from .lvm import Piece
 
-# What the folders of runs are called, and the file in each that is locked as long as its run is there.
-PREFIX, LOCK = "reraid-try.", "lock"
 # So much of what is free may be written.
 FREE = 9 / 10
 # A mount is waited for so many times so many seconds, and its server so long at its end.
 LOOKS, NEXT_LOOK, LAST_WAIT = 500, 0.02, 5
-# A folder is new for so many seconds.
-NEW = 60
 COPIED = 64 * KIB
 
 
@@ -65,12 +63,22 @@ class Region:
 
 @dataclasses.dataclass(frozen=True)
 class Volume:
-    """A volume as a file. `cut` says that only its first bytes are there, and the rest are zeros; `mounted` that it shows no holes."""
+    """A volume as a file. `cut` says that only its first bytes are there, and the rest are zeros; `mounted` that it shows no holes. Of one that is
+    served, `server` is the process that does so, and `images` how many images it reads."""
 
     path: str
     length: int
     cut: bool = False
     mounted: bool = False
+    server: int | None = None
+    images: int = 0
+
+    def meter(self, first: int | None) -> Meter | None:
+        """Return the bound on what one command may read of the images through it; None where it is no mount. Of large images the first pass reads
+        so many bytes of each."""
+        if self.server is None:
+            return None
+        return Meter(functools.partial(meter.served_by, self.server), meter.left_for(self.images, first))
 
 
 @dataclasses.dataclass(frozen=True)
@@ -115,17 +123,17 @@ class Source:
 
 
 class Room:
-    """Where volumes are put, or mounted. All of it is gone at the end; what a run left that was killed is taken away by the next one."""
+    """The folder in which volumes are written or mounted. All of it is gone at the end of the run, unless the run is killed."""
 
     def __init__(self, commands: Runner, folder: str | None = None, mounts: bool = True) -> None:
         self.commands = commands
         self.mounts = mounts and all(map(shutil.which, ("reraid-nbd", "nbdfuse", "fusermount3"))) and os.path.exists("/dev/fuse")
         self.mounted: dict[str, subprocess.Popen[bytes]] = {}
         self.numbers = itertools.count(1)
-        clear_old(folder or tempfile.gettempdir())
         try:
-            self.base = tempfile.mkdtemp(prefix=PREFIX, dir=folder)
+            self.base = os.path.abspath(tempfile.mkdtemp(prefix=PREFIX, dir=folder))
             self.lock = locked(os.path.join(self.base, LOCK), "w")
+            os.environ[VARIABLE] = self.base
         except OSError as error:
             raise OutsideError(f"{folder or tempfile.gettempdir()} cannot be written: {said(error)} (--room DIR names another folder)") from error
 
@@ -136,6 +144,7 @@ class Room:
         if self.lock:
             self.lock.close()
         shutil.rmtree(self.base, ignore_errors=True)
+        os.environ.pop(VARIABLE, None)
 
     def path(self, ending: str) -> str:
         """A new name."""
@@ -152,7 +161,8 @@ class Room:
             folder = self.path("mount")
             if self.mount(folder, source):
                 try:
-                    yield Volume(os.path.join(folder, "volume"), source.length, mounted=True)
+                    shown, server = os.path.join(folder, "volume"), self.mounted[folder].pid
+                    yield Volume(shown, source.length, mounted=True, server=server, images=len(source.names))
                 finally:
                     self.unmount(folder)
                 return
@@ -209,6 +219,7 @@ class Room:
     def unmount(self, folder: str) -> None:
         """Unmounts a volume, and ends its server."""
         server = self.mounted.pop(folder)
+        meter.HANDED_ON.add(server.pid)
         unmount(folder)
         try:
             server.wait(LAST_WAIT)
@@ -225,6 +236,12 @@ class Room:
         if region.pieces == (Piece(0, volume.length),) and length == volume.length:
             yield volume.path
             return
+        with self.copied(volume, region, length) as path:
+            yield path
+
+    @contextlib.contextmanager
+    def copied(self, volume: Volume, region: Region, length: int) -> Iterator[str | None]:
+        """The first bytes of a region as a sparse copy, with zeros behind its end where it has fewer; None where there is no room."""
         path = self.path("region")
         if volume.mounted and min(length, region.length) > self.free():
             yield None
@@ -234,42 +251,6 @@ class Room:
         finally:
             with contextlib.suppress(FileNotFoundError):
                 os.remove(path)
-
-
-def locked(path: str, mode: str) -> IO[str] | None:
-    """A file, locked; None where another run has it."""
-    file = open(path, mode, encoding="ascii")
-    try:
-        fcntl.flock(file, fcntl.LOCK_EX | fcntl.LOCK_NB)
-    except OSError:
-        file.close()
-        return None
-    return file
-
-
-def unmount(folder: str) -> None:
-    """Unmounts what is mounted on a folder, or below it."""
-    subprocess.run(["fusermount3", "-u", "-z", folder], stdin=subprocess.DEVNULL, capture_output=True, check=False)
-
-
-def clear_old(folder: str) -> None:
-    """Takes away what runs left in a folder that were killed: their locks are free. What cannot be taken away stays."""
-    try:
-        names = [os.path.join(folder, name) for name in os.listdir(folder) if name.startswith(PREFIX)]
-    except OSError:
-        return
-    for name in names:
-        try:
-            # One that is just made has no lock yet.
-            lock = locked(os.path.join(name, LOCK), "r") if time.time() - os.stat(name).st_mtime > NEW else None
-        except OSError:
-            continue
-        if lock:
-            for inner in os.listdir(name):
-                if inner.endswith(".mount"):
-                    unmount(os.path.join(name, inner))
-            shutil.rmtree(name, ignore_errors=True)
-            lock.close()
 
 
 def copy(source: str, target: str, pieces: Sequence[Piece], length: int, room: int) -> bool:

@@ -15,7 +15,7 @@ from collections.abc import Callable, Iterable, Iterator
 from typing import BinaryIO, Optional
 
 from ..evidence import reading, unread
-from ..units import KIB, MIB, SECTOR
+from ..units import KIB, MIB, SECTOR, size_said
 
 MOST_FILES = 64
 # Of a longer file so much is read, so much at once, and so much of it is unpacked at once.
@@ -33,7 +33,8 @@ MOST_CHUNK = 64 * MIB
 @dataclasses.dataclass
 class Wholes:
     """How many files were read, how many are whole, and how long the longest whole one is in bytes. `more` says that others begin behind them, `long`
-    has those that may be the longest; `joined` says from how many chunks of a row some whole file goes on into the next one, as far as was asked."""
+    has those that may be the longest; `joined` says from how many chunks of a row some whole file goes on into the next one, as far as was asked;
+    `spread` that they lie all over the volume."""
 
     found: int = 0
     whole: int = 0
@@ -41,12 +42,18 @@ class Wholes:
     more: bool = False
     long: Optional["Wholes"] = None
     joined: int = 0
+    spread: bool = False
 
     def take(self, size: int | None) -> None:
         """Counts a file of so many bytes, or a broken one; not one of which nothing is told."""
         self.found += size is not None
         self.whole += bool(size)
         self.longest = max(self.longest, size or 0)
+
+    @property
+    def broken(self) -> int:
+        """Return how many are not whole."""
+        return self.found - self.whole
 
     @property
     def longest_of_all(self) -> int:
@@ -56,12 +63,13 @@ class Wholes:
     def text(self, chunk: int = 0, row: int = 0) -> str:
         """What is said of them; of whole ones alone that are not longer than a chunk, or a row of chunks, of so many bytes also that."""
         if not self.found:
-            return "no such files"
-        said = f"{self.whole} of {'the first ' if self.more else ''}{self.found} files whole"
-        said += f", {self.long.whole} of {self.long.found} that may be long" if self.long else ""
+            return "no known files"
+        first = "the first " if self.more and not self.spread else ""
+        said = f"{self.whole} of {first}{self.found} files{' all over it' if self.spread else ''} intact"
+        said += f", {self.long.whole} of {self.long.found} that may be long" if self.long and not self.spread else ""
         longest = self.longest_of_all
-        short = "a chunk" if longest <= chunk else "a row of chunks" if longest <= row else ""
-        return said + (f", none longer than {short}" if longest and short else "")
+        short = "a chunk" if longest <= chunk else "a stripe" if longest <= row else ""
+        return said + (f", the longest {size_said(longest)}: no longer than {short}" if longest and short else "")
 
 
 def starts(file: BinaryIO, first: int, last: int, until: float) -> Iterator[tuple[int, "Kind"]]:

@@ -42,8 +42,8 @@ class Old:
 
     def line(self, name: str) -> str:
         """What is said of it."""
-        return (f"{name} is old or damaged from sector {self.first} on: in {self.rows} of the rows that were looked at the others go together "
-                "without it")
+        return (f"{name} is old or damaged from sector {self.first} on, or from another array. In {self.rows} of the sampled rows, parity matches "
+                "the others without it")
 
     def closer(self, relations: Relations, images: frozenset[int]) -> "Old":
         """The same, by the rows just before the first one, which lie closer to each other; `images` are those of the family."""
@@ -68,19 +68,19 @@ class Reshape:
     def line(self) -> str:
         """What is said of it."""
         out = ", ".join(map(str, sorted(self.before - self.after)))
-        return (f"ties change for good between sector {self.last} and sector {self.sector}: up to the first {len(self.before)} images are tied, from "
-                f"the second on {len(self.after)}, without image {out}. A reshape that stopped there does so; so does an older array of the "
-                f"{len(self.after)} behind what a newer one wrote, or image {out} if it is no member and holds what members hold, as a journal may" +
-                f"; and so does image {out}, which is zeros there, if nothing is stored on it there" * self.empty)
+        return (f"parity changes for good between sectors {self.last} and {self.sector}: before, it matches {len(self.before)} images; after, only "
+                f"{len(self.after)}, without image {out}. A reshape may have stopped there. Or an older array of {len(self.after)} disks follows "
+                f"what a newer array wrote. Or image {out} is no member, but holds data of members, such as a journal" +
+                f". Or nothing is stored on image {out} there, since it is zeros there" * self.empty)
 
     def short(self) -> str:
         """What is said of it at the end, where no volume has a sign, and how to go on."""
         out, first = ", ".join(map(str, sorted(self.before - self.after))), max(MIB, (self.last + 1) * SECTOR)
-        return (f"perhaps a reshape stopped between sector {self.last} and sector {self.sector}, of {len(self.after)} disks to {len(self.before)}, "
-                "as was said: then no one set has the whole volume. What stands up to there is of the one array, and what stands behind it of the "
-                f"other. The sets of the one: --members {len(self.before)} --first {first}; those of the other: --members {len(self.after)}, without "
-                f"image {out}; they need not have a sign. If it was on its way to more disks, the volume is that of the one up to its sector "
-                f"({self.last + 1} - OFFSET) * DATA DISKS, rounded down to whole rows of chunks, and from there on that of the other")
+        return (f"perhaps a reshape from {len(self.after)} to {len(self.before)} disks stopped between sectors {self.last} and {self.sector}, as "
+                "reported above. Then no single layout gives the whole volume: the first array ends there, and the second begins. To search for the "
+                f"first: --members {len(self.before)} --first {first}. To search for the second: --members {len(self.after)}, without image {out}. "
+                "Their layouts may have no rating. If the array was growing, take the volume of the first array up to its sector "
+                f"({self.last + 1} - OFFSET) * DATA DISKS, rounded down to whole stripes. From there on take that of the second")
 
     def closer(self, relations: Relations) -> "Reshape":
         """The same by rows between the two, which lie closer to each other."""
@@ -95,8 +95,8 @@ class Family:
     """Images that belong together. `level` is that of their parity (10 for copies), None where ties do not tell it; `parity` how many ties most of
     the rows have in which no image is zeros, which is how many disks more might be lost were no image old, and `others` what numbers of ties rows
     have besides: more where what is lost is zeros, fewer where rows are bad. `first` and `last` are the first and last row that is tied. `loose`
-    counts the rows in which no image is zeros and nothing is tied though most are, the first of them at `loose_first`. `copies` are the images of
-    which two hold the same in nearly all rows; images of which two do so in most rows are a family of copies without them."""
+    counts the rows in which one image at most is zeros and nothing is tied though most are, the first of them at `loose_first`. `copies` are the
+    images of which two hold the same in nearly all rows; images of which two do so in most rows are a family of copies without them."""
 
     images: tuple[int, ...]
     rows: int
@@ -244,6 +244,18 @@ def joining(tied: Mapping[tuple[int, int], int], found: Sequence[frozenset[int]]
         yield from (pair for pair, count in tied.items() if len(within.intersection(pair)) == len(family.intersection(pair)) == 1 and count >= least)
 
 
+@dataclasses.dataclass(frozen=True)
+class Blank:
+    """Rows in which one image alone is zeros: the image, the first row, how many rows, how many ties of the others, and whether each of these is
+    tied."""
+
+    image: int
+    first: int
+    rows: int
+    ties: int
+    whole: bool
+
+
 @dataclasses.dataclass
 class Tally:
     """What the rows of a family say, by how many of them say it."""
@@ -261,6 +273,7 @@ class Tally:
     outside: collections.Counter[int] = dataclasses.field(default_factory=collections.Counter)
     outside_first: dict[int, int] = dataclasses.field(default_factory=dict)
     loose: list[tuple[int, int]] = dataclasses.field(default_factory=list)
+    blank: list[Blank] = dataclasses.field(default_factory=list)
 
     def add(self, rows: Rows, count: int) -> None:
         """Counts some rows."""
@@ -281,6 +294,8 @@ class Tally:
             self.paired += count if all(tie.plain and len(tie.weights) == 1 for tie in ties) else 0
         if here == self.images:
             self.add_full(rows, ties, count)
+        elif len(self.images) - len(here) == 1:
+            self.blank.append(Blank(min(self.images - here), rows.first, count, len(ties), here <= tied_images(ties)))
 
     def add_full(self, rows: Rows, ties: tuple[Tie, ...], count: int) -> None:
         """Counts rows in which no image is zeros."""
@@ -325,12 +340,17 @@ class Tally:
         return LEVEL_5 if self.plain >= PART_PLAIN * self.rows and self.whole[2] <= self.whole[1] else LEVEL_6
 
     def old(self) -> tuple[Old, ...]:
-        """The images that ties of the others leave out in some rows."""
-        return tuple(Old(image, rows, self.outside_first[image]) for image, rows in sorted(self.outside.items()) if rows >= LEAST_OLD)
+        """The images that ties of the others leave out in some rows, and those that are zeros in rows of which the others have a tie less."""
+        found, first = collections.Counter(self.outside), dict(self.outside_first)
+        for it in self.blank:
+            if it.whole and 0 < it.ties < self.parity:
+                found[it.image] += it.rows
+                first[it.image] = min(it.first, first.get(it.image, it.first))
+        return tuple(Old(image, rows, first[image]) for image, rows in sorted(found.items()) if rows >= LEAST_OLD)
 
     def loose_rows(self) -> tuple[int, int | None]:
-        """How many rows in which no image is zeros have no tie, and the first of them; none where parity says nothing."""
-        found = self.loose if self.parity else []
+        """How many rows in which one image at most is zeros have no tie, and the first of them; none where parity says nothing."""
+        found = [*self.loose, *((it.first, it.rows) for it in self.blank if not it.ties)] if self.parity else []
         return sum(count for _, count in found), min((first for first, _ in found), default=None)
 
 

@@ -8,10 +8,11 @@ from ..calls import surveys
 from ..calls.plans import Mark, Plan
 from ..calls.surveys import Request, Surveys
 from ..units import SECTOR, listed
-from . import hints
+from . import hints, sampling
 from .filling import Filling
 from .hints import Hint, Source, What
 from .images import Image
+from .surveying import LargeSurveys
 from .tables import Table
 
 # So many sectors of each member are tested for parity at most.
@@ -157,7 +158,8 @@ def gather(made: Surveys, images: Sequence[Image], first: int, pairs: Pairs | No
     base = base.having(origins=listed(sorted(asked)[:surveys.MOST_VALUES]), offsets=listed(tried), end=end)
     if window < end:
         base = base.having(window=window)
-    filling = Filling([image.name for image in images], {*tried, *(start + it for it in hints.MORE_OFFSETS if start + it < end)}, window, end)
+    flags = made.shared.flags if isinstance(made, LargeSurveys) and sampling.is_large(start, end) else None
+    filling = Filling([image.name for image in images], {*tried, *(start + it for it in hints.MORE_OFFSETS if start + it < end)}, window, end, flags)
     unread = bad[0].value if bad else 0
     return Evidence(tuple(images), pairs, base, plan, tuple(offsets), tuple(data), tuple(levels), unread, tuple(said), end, window, filling, tried,
                     start)

@@ -62,6 +62,8 @@ SIGNS = (
     Sign("exfat", 3, b"EXFAT   "),
     Sign("ext4", EXT_PLACE + 56, b"\x53\xef", is_first_ext),
     Sign("btrfs", 65536 + 64, b"_BHRfS_M"),
+    Sign("jfs", 32768, b"JFS1"),
+    Sign("reiserfs", 65536 + 52, b"ReIsEr"),
     *(Sign("LVM2_member", place, b"LABELONE") for place in range(0, 4 * SECTOR, SECTOR)),
     Sign("vfat", 82, b"FAT32   ", is_fat),
     Sign("vfat", 54, b"FAT16   ", is_fat),

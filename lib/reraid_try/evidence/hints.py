@@ -45,6 +45,11 @@ class What(enum.Enum):
     BAD_ROWS = "badrows"
 
 
+# How a hint of each kind is printed.
+PRINTED = {What.OFFSET: "data offset {} sectors", What.DATA: "{} data disks", What.LEVEL: "perhaps RAID {}", What.LOGICAL: "blocks of {} bytes",
+           What.ORIGIN: "contents begin at volume sector {}", What.END: "array ends at image sector {}", What.BAD_ROWS: "{} bad rows"}
+
+
 class Source(enum.Enum):
     """What a hint was taken from."""
 
@@ -74,7 +79,7 @@ class Hint:
 
     def line(self) -> str:
         """What is said of it."""
-        return f"hint: {'perhaps ' if self.what is What.LEVEL else ''}{self.what.value} {self.value}, from {self.why}"
+        return f"hint: {PRINTED[self.what].format(self.value)}, from {self.why}"
 
 
 def read_at(name: str, sector: int, count: int = SECTOR) -> bytes:
@@ -121,11 +126,11 @@ def offsets(plan: Plan, heads: Sequence[Head]) -> list[Hint]:
         if kind in UNPLACED or first.sector < first.nearest:
             continue
         value = first.sector - first.nearest
-        seen = found.setdefault(value, Seen(Source.MARK, f"mark {kind} of image {first.image} at sector {first.sector}, less {first.nearest}"))
+        seen = found.setdefault(value, Seen(Source.MARK, f"landmark {kind} on image {first.image}: sector {first.sector} less {first.nearest}"))
         seen.images.update(mark.image for mark in marks if mark.sector == first.sector)
         seen.marks, seen.spread = max(seen.marks, len(group.marks)), max(seen.spread, len(group.images()))
     for head in heads:
-        seen = found.setdefault(head.sector, Seen(Source.HEAD, f"what looks like the head of {head.kind} on image {head.image}"))
+        seen = found.setdefault(head.sector, Seen(Source.HEAD, f"a possible start of {head.kind} on image {head.image}"))
         seen.images.add(head.image)
     order = sorted(found, key=lambda value: (-len(found[value].images), -found[value].marks, value))
     return [found[value].hint(value) for value in order]
@@ -157,7 +162,7 @@ class Explained:
     def hint(self, value: int) -> Hint:
         """The hint."""
         images = len(self.group.images())
-        why = f"{self.count} places of {self.group.name()}, for {self.disks} data disks and chunks of {self.chunk}"
+        why = f"{self.count} places of {self.group.name()}, for {self.disks} data disks and chunks of {self.chunk} sectors"
         return Hint(What.OFFSET, value, Source.PLACES, why, images, images)
 
 
@@ -218,7 +223,7 @@ def data_disks(plan: Plan, most: int) -> list[Hint]:
             if LEAST_DATA <= near <= most and abs(ratio - near) <= NEAR_RATIO * near:
                 votes[near] += 1
                 shown[near] = max(shown[near], len(group.images()))
-                why.setdefault(near, f"the distances of the marks of {group.name()}")
+                why.setdefault(near, f"the distances between landmarks of {group.name()}")
     order = sorted(votes, key=lambda value: (-shown[value], -votes[value]))
     return [Hint(What.DATA, value, Source.DISTANCES, why[value], shown[value]) for value in order[:MOST_DATA]]
 
@@ -237,8 +242,8 @@ def level(plan: Plan, heads: Sequence[Head]) -> list[Hint]:
     most = max(map(len, shown.values()), default=0)
     if most not in LEVELS_SHOWN:
         return []
-    why = f"a sector of one kind that {counted(most, 'image')} show{'s' * (most == 1)} at one place"
-    return [Hint(What.LEVEL, LEVELS_SHOWN[most], Source.COPIES, why + (", as two copies of RAID 10 do too" if most == 2 else ""))]
+    why = f"the same kind of sector at the same place on {counted(most, 'image')}"
+    return [Hint(What.LEVEL, LEVELS_SHOWN[most], Source.COPIES, why + (", as also with two copies of RAID 10" if most == 2 else ""))]
 
 
 PE_START = re.compile(rb"pe_start = (\d+)")
@@ -262,7 +267,7 @@ def lvm_origins(plan: Plan, images: Mapping[int, Image]) -> list[Hint]:
                 if segment[2] is None:
                     before = int(segment[1])
                 elif (place := int(start[1]) + (int(segment[2]) - before) * int(extent[1])) >= 0:
-                    found.setdefault(place, f"the text of LVM2 on image {mark.image}" + ", by a later segment of a volume" * (before > 0))
+                    found.setdefault(place, f"the LVM2 metadata on image {mark.image}" + ", from a later segment of a volume" * (before > 0))
             found.setdefault(int(start[1]), f"pe_start on image {mark.image}")
     return [Hint(What.ORIGIN, value, Source.LVM, why) for value, why in sorted(found.items())]
 
@@ -298,7 +303,7 @@ def logical(plan: Plan, images: Mapping[int, Image]) -> list[Hint]:
             if tables.read_mbr(read_at(name, mark.sector - 1), 2 * tables.MOST_MBR):
                 small.add(mark.image)
             elif tables.read_mbr(read_at(name, mark.sector - LARGE_SECTORS), 2 * tables.MOST_MBR):
-                large[mark.image] = f"an MBR eight sectors before a table's header on image {mark.image}"
+                large[mark.image] = f"an MBR eight sectors before a GPT header on image {mark.image}"
     if len(large) <= len(small):
         return []
     return [Hint(What.LOGICAL, LARGE_BLOCK, Source.TABLE, next(iter(large.values())), len(large))]

@@ -1,5 +1,6 @@
 """Looks at the images before anything is searched: lengths, partition tables of their own, where they hold data, which are alike."""
 
+import concurrent.futures
 import dataclasses
 import os
 import stat
@@ -8,7 +9,7 @@ from typing import Any, BinaryIO
 
 from ..errors import OutsideError, said
 from ..opening import Opened
-from ..units import SECTOR, counted
+from ..units import GIB, SECTOR, counted
 from . import heads, maps, reading, tables
 from .heads import Head
 from .maps import Map
@@ -16,8 +17,9 @@ from .tables import Table
 
 # What is looked at in each image for heads of file systems: a little more than the greatest usual offset.
 HEAD = 270336 * SECTOR
-# So many sectors, spread over two images, tell that they are not the same.
-SAMPLES = 64
+# So many sectors, spread over two images, tell that they are not the same. Of large images so many sectors, and so many first bytes, tell that they
+# are.
+SAMPLES, MORE_SAMPLES, MOST_COMPARED = 64, 1024, 2 * GIB
 
 
 @dataclasses.dataclass(frozen=True)
@@ -53,8 +55,9 @@ class Image:
         """What is said of it."""
         parts = [f"image {self.number} {self.called}: {self.sectors} sectors"]
         if self.rest:
-            parts[0] += f" and {counted(self.rest, 'byte')}, no whole sector, which {'is' if self.rest == 1 else 'are'} not looked at"
-        parts.append("nothing but zeros" if self.first is None else f"data from sector {self.first} to {self.last}")
+            parts[0] += f" and {counted(self.rest, 'byte')} after the last whole sector, which {'is' if self.rest == 1 else 'are'} ignored"
+        last = "on" if self.last is None else f"to {self.last}"
+        parts.append("nothing but zeros" if self.first is None else f"non-zero from sector {self.first} {last}")
         if self.table.kind:
             whose = "its own" if self.table.own else "at its start a"
             partitions = " ".join(f"{it.first}+{it.count}" for it in self.table.partitions) or "no partition"
@@ -62,7 +65,7 @@ class Image:
         if self.like is not None:
             parts.append(f"the same as image {self.like}")
         if self.map:
-            parts.append(f"its map is {self.map.name}")
+            parts.append(f"mapfile {self.map.name}")
         return ", ".join(parts)
 
     def fields(self) -> dict[str, Any]:
@@ -71,22 +74,13 @@ class Image:
         container = self.opened.container.kind if self.opened else None
         return {"name": self.called, "container": container, "number": self.number, "sectors": self.sectors, "rest": self.rest,
                 "table": self.table.kind, "own": self.table.own, "partitions": partitions, "first": self.first, "last": self.last,
-                "like": self.like, "map": self.map.name if self.map else None}
+                "like": self.like, "map": self.map.name if self.map else None, "map_sha256": self.map.sha256 if self.map else None}
 
 
 def unread_by(images: Iterable[Image]) -> str:
     """By what sectors count as unread of images of which some do, as it is said."""
     there = {image.map is not None for image in images if image.unread} or {True}
     return " and ".join(["the maps"] * (True in there) + ["the texts that count as unread"] * (False in there))
-
-
-def is_image(name: str) -> bool:
-    """It is a file or a block device that can be read."""
-    try:
-        mode = os.stat(name).st_mode
-    except OSError:
-        return False
-    return (stat.S_ISREG(mode) or stat.S_ISBLK(mode)) and os.access(name, os.R_OK)
 
 
 def filled(names: Sequence[str], first: int, last: int) -> bytearray:
@@ -97,8 +91,9 @@ def filled(names: Sequence[str], first: int, last: int) -> bytearray:
         for place in range(first * SECTOR, last * SECTOR, reading.STEP):
             merged, count = 0, min(reading.STEP, last * SECTOR - place)
             for file in files:
-                file.seek(place)
-                merged |= int.from_bytes(file.read(count), "little")
+                if not reading.is_hole(file, place, place + count):
+                    file.seek(place)
+                    merged |= int.from_bytes(file.read(count), "little")
             block = merged.to_bytes(count, "little") if merged else b""
             flags += bytes(block[start:start + SECTOR] != zeros for start in range(0, count, SECTOR)) if merged else bytes(count // SECTOR)
         for file in files:
@@ -108,11 +103,23 @@ def filled(names: Sequence[str], first: int, last: int) -> bytearray:
     return flags
 
 
-def samples(file: BinaryIO, length: int) -> list[bytes]:
-    """Some sectors of an image, spread over it."""
+def filled_of(name: str, first: int, last: int) -> bytes:
+    """For each of these sectors 1 where an image is not zero there, and 0 else."""
+    flags, zeros, full = bytearray(last - first), bytes(SECTOR), bytes(reading.STEP)
+    with open(name, "rb") as file:
+        for place, block in reading.blocks(file, first * SECTOR, last * SECTOR):
+            if block != full[:len(block)]:
+                begin = place // SECTOR - first
+                held = bytes(block[start:start + SECTOR] != zeros for start in range(0, len(block), SECTOR))
+                flags[begin:begin + len(held)] = held
+    return bytes(flags)
+
+
+def samples(file: BinaryIO, length: int, count: int = SAMPLES) -> list[bytes]:
+    """So many sectors of an image, spread over it."""
     taken = []
-    for k in range(SAMPLES):
-        file.seek(length // SECTOR * k // SAMPLES * SECTOR)
+    for k in range(count):
+        file.seek(length // SECTOR * k // count * SECTOR)
         taken.append(file.read(SECTOR))
     return taken
 
@@ -124,7 +131,14 @@ def look(name: str, number: int, first_bytes: int, opened: Opened | None = None)
         with open(name, "rb") as file:
             return dataclasses.replace(look_into(file, name, called, number, first_bytes), opened=opened)
     except OSError as error:
-        raise OutsideError(f"image {number} {called} cannot be read: {said(error)} (copy it with ddrescue, whose map says what is lost)") from error
+        advice = "copy it with ddrescue: its mapfile lists what is unreadable"
+        raise OutsideError(f"image {number} {called} cannot be read: {said(error)} ({advice})") from error
+
+
+def map_beside(name: str) -> str | None:
+    """Return the map beside an image, or beside the file that a link leads to; None if there is none."""
+    names = (f"{begin}.map" for it in (name, os.path.realpath(name)) for begin in (it, os.path.splitext(it)[0]))
+    return next((name for name in names if os.path.isfile(name)), None)
 
 
 def look_into(file: BinaryIO, name: str, called: str, number: int, first_bytes: int) -> Image:
@@ -133,7 +147,7 @@ def look_into(file: BinaryIO, name: str, called: str, number: int, first_bytes: 
     sectors = size // SECTOR
     length = sectors * SECTOR
     if not sectors:
-        raise OutsideError(f"image {number} {called} has no whole sector of {SECTOR} bytes, but {counted(size, 'byte')}: leave it out")
+        raise OutsideError(f"image {number} {called} has {counted(size, 'byte')}, less than a sector of {SECTOR}: leave it out")
 
     def read(place: int, count: int) -> bytes:
         file.seek(place)
@@ -142,20 +156,32 @@ def look_into(file: BinaryIO, name: str, called: str, number: int, first_bytes: 
     last = reading.last_data(file, max(0, length - first_bytes), length)
     if last is None and first is not None:
         last = reading.last_data(file, 0, min(length, first_bytes))
-    beside = next((it for it in (called + ".map", os.path.splitext(called)[0] + ".map") if os.path.isfile(it)), None)
+    beside = map_beside(called)
     return Image(name, number, sectors, size - length, tables.read_table(read, sectors), first, last, None, maps.read_map(beside) if beside else None,
                  heads.find_heads(file, number, min(length, HEAD)))
 
 
+def held(image: Image) -> int:
+    """Return how many bytes of an image its file system holds; all of a block device, and of a file whose file system does not tell."""
+    seen = os.stat(image.name)
+    return seen.st_blocks * SECTOR if stat.S_ISREG(seen.st_mode) and seen.st_blocks else image.sectors * SECTOR
+
+
 def equal(one: Image, other: Image, bound: int) -> bool:
-    """Two images hold the same in their first bytes, and are as long."""
+    """Two images hold the same in their first bytes, of large ones in fewer and in sectors all over them, and are as long."""
     if one.sectors != other.sectors or one.first != other.first or one.last != other.last or one.first is None:
         return False
     length = one.sectors * SECTOR
     with open(one.name, "rb") as left, open(other.name, "rb") as right:
         if samples(left, length) != samples(right, length):
             return False
+        if bound > MOST_COMPARED and length > MOST_COMPARED:
+            if samples(left, length, MORE_SAMPLES) != samples(right, length, MORE_SAMPLES):
+                return False
+            bound = MOST_COMPARED
         for place in range(0, min(bound, length), reading.STEP):
+            if reading.is_hole(left, place, place + reading.STEP) and reading.is_hole(right, place, place + reading.STEP):
+                continue
             left.seek(place)
             right.seek(place)
             count = min(reading.STEP, length - place)
@@ -168,11 +194,12 @@ def look_at_all(names: Sequence[str], first_bytes: int, opened: Sequence[Opened]
     """What is seen of all images, in their order; some of them are opened containers."""
     seen: list[Image] = []
     containers = {it.path: it for it in opened}
-    for number, name in enumerate(names):
-        image = look(name, number, first_bytes, containers.get(name))
+    with concurrent.futures.ThreadPoolExecutor(max(1, len(names))) as pool:
+        found = list(pool.map(lambda number: look(names[number], number, first_bytes, containers.get(names[number])), range(len(names))))
+    for image in found:
         try:
             like = next((it.number for it in seen if equal(it, image, first_bytes)), None)
         except OSError as error:
-            raise OutsideError(f"image {number} {image.called} cannot be read: {said(error)}") from error
+            raise OutsideError(f"image {image.number} {image.called} cannot be read: {said(error)}") from error
         seen.append(dataclasses.replace(image, like=like))
     return tuple(seen)

@@ -1,6 +1,7 @@
 """The maps of ddrescue beside the images."""
 
 import dataclasses
+import hashlib
 from collections.abc import Iterator, Sequence
 
 from ..errors import OutsideError, said
@@ -14,11 +15,12 @@ MOST_BYTES = 1 << 64
 
 @dataclasses.dataclass(frozen=True)
 class Map:
-    """A map: its name, its text, and the blocks as first byte, bytes and status."""
+    """A map: its name, its text, the blocks as first byte, bytes and status, and the SHA-256 of its file."""
 
     name: str
     text: str
     blocks: tuple[tuple[int, int, str], ...]
+    sha256: str = ""
 
     @property
     def plain(self) -> str:
@@ -60,15 +62,16 @@ def is_status_line(words: Sequence[str]) -> bool:
 def read_map(name: str) -> Map:
     """The map of a file."""
     try:
-        with open(name, encoding="utf-8") as file:
-            text = file.read()
+        with open(name, "rb") as file:
+            data = file.read()
+        text = data.decode()
     except (OSError, UnicodeDecodeError) as error:
-        why = said(error) if isinstance(error, OSError) else "it is no text"
-        raise OutsideError(f"the map {name} cannot be read: {why}") from error
+        why = said(error) if isinstance(error, OSError) else "it is not text"
+        raise OutsideError(f"the mapfile {name} cannot be read: {why}") from error
     lines = [(number, line.split()) for number, line in enumerate(text.splitlines(), 1) if line.strip() and not line.startswith("#")]
     if not lines or not is_status_line(lines[0][1]):
         where = f"line {lines[0][0]}" if lines else "it has no lines"
-        raise OutsideError(f"{name} is no map of ddrescue: {where} (move it away to search without it)")
+        raise OutsideError(f"{name} is not a ddrescue mapfile: {where} (move it away to search without it)")
     blocks: list[tuple[int, int, str]] = []
     after = 0
     for number, words in lines[1:]:
@@ -79,12 +82,12 @@ def read_map(name: str) -> Map:
         except (ValueError, IndexError):
             good = False
         if not good:
-            raise OutsideError(f"{name} is no map of ddrescue: line {number} (move it away to search without it)")
+            raise OutsideError(f"{name} is not a ddrescue mapfile: line {number} (move it away to search without it)")
         blocks.append((first, length, words[2]))
         after = first + length
     if not blocks:
-        raise OutsideError(f"{name} is no map of ddrescue: it has no blocks (move it away to search without it)")
-    return Map(name, text, tuple(blocks))
+        raise OutsideError(f"{name} is not a ddrescue mapfile: it has no blocks (move it away to search without it)")
+    return Map(name, text, tuple(blocks), hashlib.sha256(data).hexdigest())
 
 
 def maps_text(maps: Sequence[Map | None]) -> str | None:

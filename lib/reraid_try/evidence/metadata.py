@@ -64,9 +64,9 @@ class Member:
     def line(self, name: str) -> str:
         """What is said of it."""
         said = [f"{self.level} of {counted(self.disks, 'disk')}", self.layout, f"chunks of {self.chunk // KIB_SECTORS} KiB" if self.chunk else "",
-                "" if self.slot is None else f"slot {self.slot}", "" if self.offset is None else f"data from sector {self.offset}",
+                "" if self.slot is None else f"slot {self.slot}", "" if self.offset is None else f"data offset {self.offset} sectors",
                 "" if self.events is None else counted(self.events, "event")]
-        return f"metadata on {name} say ({self.source}): " + ", ".join(filter(None, said))
+        return f"metadata on {name} ({self.source}): " + ", ".join(filter(None, said))
 
 
 def fields_of(text: str) -> dict[str, str]:
@@ -248,7 +248,7 @@ def lvm_starts(labels: Mapping[int, int], names: Mapping[int, str]) -> dict[int,
 
 def starts_line(name: str, starts: Sequence[int]) -> str:
     """What is said of where parts begin on an image."""
-    return f"metadata on {name} say (LVM2): parts of volumes begin at {'sector' if len(starts) == 1 else 'sectors'} {', '.join(map(str, starts))}"
+    return f"metadata on {name} (LVM2): parts of volumes begin at {'sector' if len(starts) == 1 else 'sectors'} {', '.join(map(str, starts))}"
 
 
 def segments_of(text: str) -> list[tuple[str, int]]:

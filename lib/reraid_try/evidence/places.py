@@ -131,13 +131,15 @@ def is_in(gaps: Sequence[range], row: int) -> bool:
     return place > 0 and row in gaps[place - 1]
 
 
-def seen_in(relations: Relations, images: frozenset[int], spare: int, unread: Sequence[range]) -> Iterator[Seen]:
+def seen_in(relations: Relations, images: frozenset[int], spare: int, unread: Sequence[range], parity: int) -> Iterator[Seen]:
     """The rows that say something of these images: some are zeros there and others are not. `spare` is how many disks more may be lost, `unread` has
-    runs of rows in which some image was not read, in order."""
+    runs of rows in which some image was not read, in order. Rows with more ties than the level has `parity` say nothing: their data repeat, as in
+    files of one pattern, and cancel."""
     for rows in relations.rows:
         zero, there = images & rows.zero, images - rows.zero
-        tied = frozenset[int]().union(*(tie.images for tie in ties_among(rows, images)))
-        if zero and there and (tied == there or not spare):
+        ties = ties_among(rows, images)
+        tied = frozenset[int]().union(*(tie.images for tie in ties))
+        if zero and there and (tied == there or not spare) and len(ties) <= parity:
             for sector in range(rows.first, rows.last + 1, relations.step):
                 if not is_in(unread, sector):
                     yield Seen(sector, 1, zero, tied == there)
@@ -150,7 +152,7 @@ class Places:
     def __init__(self, relations: Relations, images: Sequence[int], level: str, members: int, unread: Iterable[range] = ()) -> None:
         self.images, self.level, self.members = tuple(images), level, members
         spare = max(0, LEVELS[level].parity - (members - len(self.images)))
-        self.seen = tuple(seen_in(relations, frozenset(images), spare, joined(unread)))
+        self.seen = tuple(seen_in(relations, frozenset(images), spare, joined(unread), LEVELS[level].parity))
         self.turns = TURNS_5 if level == LEVEL_5 else TURNS_6
 
     @property

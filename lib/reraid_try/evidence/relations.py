@@ -112,6 +112,10 @@ class Relations:
         """How many rows were looked at in these."""
         return rows.count(self.step)
 
+    def before(self, row: int) -> int:
+        """Return the last row before one at which a run begins or ends; one step before where there is none."""
+        return max((place for it in self.rows for place in (it.first, it.last) if place < row), default=row - self.step)
+
 
 def read_list(text: str) -> frozenset[int]:
     """The numbers of a list; `-` is none."""

@@ -43,11 +43,11 @@ class Place:
     def line(self) -> str:
         """What is said of it."""
         if self.empty:
-            what = "nothing but zeros where it was looked at"
+            what = "zeros in all sampled sectors"
         elif self.copied:
-            what = "the same on each, as copies are"
+            what = "the same on each: copies"
         else:
-            what = "EFI system partitions, not the same on each" if self.efi else "not the same on each, as in an array of its own"
+            what = "EFI system partitions, not the same on each" if self.efi else "not the same on each: perhaps an array of its own"
         return f"the partition of {self.count} sectors from sector {self.first} on, on {counted(len(self.images), 'image')}: {what}"
 
 

@@ -25,6 +25,8 @@ MOST_CHUNK = 32768
 MOST_WEAKER, LEAST_WEAKER, WHOLE = 3, 3, 2048
 # Of so many distances one may be of files that are stored twice, and not of where the data begin.
 MOST_OTHERS = 4
+# One that so many times fewer sectors show than the strongest one is of such files, where it is asked how far apart copies lie.
+WEAK = 16
 # Data begin at a multiple of so many sectors, and a chunk of md has no fewer: equal files lie apart by any number.
 ALIGNED = 8
 
@@ -157,8 +159,10 @@ def agree(found: Sequence[Shift], images: int) -> bool:
 
 def apart(found: Sequence[Shift], images: int) -> int | None:
     """How far apart the copies of RAID 10 lie, where most distances between images have one size, or, of more than two copies, are up to three times
-    as long, and most of so many images have such a distance; None else."""
-    told = [it for it in found if it.distance]
+    as long, and most of so many images have such a distance; None else. Distances that far fewer sectors show than the strongest do not count: with
+    disks missing, as many pairs of images have no copies as have some."""
+    most = max((it.shown for it in found), default=0)
+    told = [it for it in found if it.distance and WEAK * it.shown >= most]
     for size in sorted({abs(it.distance) for it in told}):
         those = [it for it in told if it.distance % size == 0 and abs(it.distance) // size < MOST_COPIES]
         if 2 * len(those) > len(told) and 2 * len({image for it in those for image in (it.one, it.other)}) > images:

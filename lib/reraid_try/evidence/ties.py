@@ -1,13 +1,15 @@
 """Asks how images depend on one another, and gathers what that tells of arrays before anything is searched: `reraid relations` where the program has
 it, and else elimination of ours."""
 
+import contextlib
 import dataclasses
 from collections.abc import Mapping, Sequence
 
 from ..calls.commands import Runner
+from ..calls.memory import direct
 from ..calls.sets import LEVELS
-from ..units import counted
-from . import dependence, families, relations
+from ..units import counted, sectors_said
+from . import compact, dependence, families, patterns, relations, sampling
 from .families import COPIES, LEVEL_5, LEVEL_6, Family, Old
 from .images import Image
 from .relations import Relations
@@ -41,12 +43,19 @@ class Told:
     asked: bool = False
 
 
+def step_of(first: int, end: int) -> int:
+    """Return how many sectors apart the rows lie that are looked at from a first to before a last one."""
+    return max(1, -(-(end - first) // MOST_ROWS))
+
+
 class Ties:
     """Relations of images, in their order."""
 
     def __init__(self, runner: Runner, images: Sequence[Image], seconds: int) -> None:
         self.runner, self.images, self.seconds = runner, {image.number: image for image in images}, seconds
         self.program = True
+        self.spreads: dict[tuple[tuple[int, ...], int, int, int, tuple[int, ...]], Relations | None] = {}
+        self.known: dict[tuple[tuple[int, ...], int, int, tuple[int, ...]], Told] = {}
 
     def relations(self, numbers: Sequence[int], first: int, end: int, step: int, offsets: Sequence[int] = ()) -> Relations | None:
         """The relations of images by their numbers, in the rows from a first to before a last one, each so many sectors behind the one before; with
@@ -57,39 +66,80 @@ class Ties:
             found = dependence.look(names, first, end, step, offsets, self.seconds)
         return relations.renumbered(found, numbers) if found else None
 
-    def of_program(self, names: Sequence[str], first: int, end: int, step: int, offsets: Sequence[int]) -> Relations | None:
-        """What the program says of these images; None where it said nothing in its time, or does not know the command, which is kept in mind."""
+    def of_program(self, names: Sequence[str], first: int, end: int, step: int, offsets: Sequence[int], kept: bool = True) -> Relations | None:
+        """What the program says of these images; None where it said nothing in its time, or does not know the command, which is kept in mind.
+        Where answers are kept for another run, this one is unless `kept` is false."""
         words = ["reraid", "relations", f"from={first}", f"end={end}", f"step={step}"]
         words += ["offsets=" + "+".join(map(str, offsets))] if offsets else []
-        answer = self.runner.run([*words, "--", *names], seconds=self.seconds)
+        runner = self.runner if kept else direct(self.runner)
+        answer = runner.run([*words, "--", *names], seconds=self.seconds)
         self.program = answer.status != REFUSED
         try:
             return relations.read(answer.out, step) if answer.good else None
         except relations.Unreadable:
             return None
 
+    def spread(self, numbers: Sequence[int], first: int, end: int, most: int, offsets: Sequence[int] = ()) -> Relations | None:
+        """The relations of about so many rows of images, from a first to before a last one: evenly spread, or of large images those in which they
+        hold data, as far as that is known. None where they were not had in their time."""
+        if not sampling.is_large(first, end):
+            return self.relations(numbers, first, end, max(1, -(-(end - first) // most)), offsets)
+        key = tuple(numbers), first, end, most, tuple(offsets)
+        if key not in self.spreads:
+            self.spreads[key] = self.sampled(numbers, first, end, most, offsets, most == MOST_ROWS)
+        return self.spreads[key]
+
+    def sampled(self, numbers: Sequence[int], first: int, end: int, most: int, offsets: Sequence[int], telling: bool) -> Relations | None:
+        """The relations of rows of large images, which are read once and kept in memory for the program; where they are to tell what ties the images,
+        of those that hold more than patterns."""
+        sample = sampling.look([self.images[number].name for number in numbers], first, end, most, offsets)
+        sample = sample.telling() if telling else sample
+        if not sample.rows:
+            return None
+        with compact.columns(sample.columns()) as names:
+            # The names are not those of the images, so the answer is kept nowhere.
+            found = self.of_program(names, 0, len(sample.rows), 1, (), kept=False) if self.program else None
+            if not self.program:
+                found = dependence.look(names, 0, len(sample.rows), 1, (), self.seconds)
+        return relations.renumbered(sampling.placed(found, sample), numbers) if found else None
+
     def told(self, numbers: Sequence[int], first: int, end: int, offsets: Sequence[int] = ()) -> Told:
-        """What the rows of some images tell, spread from a first to before a last one, each image moved by its offset where there are some."""
-        step = max(1, -(-(end - first) // MOST_ROWS))
-        found = self.relations(numbers, first, end, step, offsets) if LEAST_IMAGES <= len(numbers) <= MOST_IMAGES and first < end else None
+        """What the rows of some images tell, spread from a first to before a last one, each image moved by its offset where there are some. The rows
+        are read once."""
+        key = tuple(numbers), first, end, tuple(offsets)
+        if key not in self.known:
+            self.known[key] = self.tell(numbers, first, end, offsets)
+        return self.known[key]
+
+    def tell(self, numbers: Sequence[int], first: int, end: int, offsets: Sequence[int]) -> Told:
+        """What the rows of some images tell, which are read for it."""
+        found = self.spread(numbers, first, end, MOST_ROWS, offsets) if LEAST_IMAGES <= len(numbers) <= MOST_IMAGES and first < end else None
         if found is None:
             return Told()
+        found = self.without_patterns(found, numbers, offsets)
         moved = dict(zip(numbers, offsets))
-        known = tuple(self.closer(it, first, end, step, moved) for it in families.families(found, numbers))
+        known = tuple(self.closer(it, first, end, found, moved) for it in families.families(found, numbers))
         within = {image for it in known for image in it.family.images}
         return Told(known, tuple(number for number in numbers if number not in within), True)
 
-    def closer(self, family: Family, first: int, end: int, step: int, moved: Mapping[int, int]) -> Known:
-        """What rows that lie closer to each other tell of a family: where it begins, and how long its chunks are."""
+    def without_patterns(self, found: Relations, numbers: Sequence[int], offsets: Sequence[int]) -> Relations:
+        """Return relations of images, each moved by its offset where there are some, without the rows in which patterns alone are tied."""
+        names = {number: self.images[number].name for number in numbers}
+        with contextlib.closing(patterns.Sectors(names, offsets)) as sectors:
+            kept = patterns.without(found, sectors.held, len(numbers))
+        return kept
+
+    def closer(self, family: Family, first: int, end: int, found: Relations, moved: Mapping[int, int]) -> Known:
+        """What rows that lie closer to each other tell of a family of some rows: where it begins, and how long its chunks are."""
         images = family.current
-        before, offsets = max(first, family.first - step), [moved[image] for image in images] if moved else []
+        before, offsets = max(first, found.before(family.first)), [moved[image] for image in images] if moved else []
         near = self.relations(images, before, min(end, family.first + 1), max(1, (family.first - before) // MOST_ROWS), offsets)
         begin = next((rows.first for rows in near.tied_rows()), None) if near else None
         if reshape := family.reshape:
             behind = min(end, reshape.sector + 1)
             near = self.relations(images, reshape.last, behind, max(1, (behind - reshape.last) // MOST_ROWS), offsets)
             family = dataclasses.replace(family, reshape=reshape.closer(near) if near else reshape)
-        family = dataclasses.replace(family, old=tuple(self.since(it, family, max(first, it.first - step), moved) for it in family.old))
+        family = dataclasses.replace(family, old=tuple(self.since(it, family, max(first, found.before(it.first)), moved) for it in family.old))
         if family.level != LEVEL_6 or not family.parity:
             return Known(family, None, begin)
         fine = self.relations(images, family.first // FINE_STEP * FINE_STEP, min(end, family.first + MOST_ROWS * FINE_STEP), FINE_STEP, offsets)
@@ -108,57 +158,63 @@ def named(numbers: Sequence[int]) -> str:
     return f"image{'' if len(numbers) == 1 else 's'} {', '.join(map(str, numbers))}"
 
 
-def lost_line(family: Family) -> str:
-    """What is said of the parity of a family."""
+def lost_line(family: Family, place: str = "") -> str:
+    """What is said of the parity of a family, with its chunk and place, if these are known."""
     lost = family.lost or 0
     if family.may_be_copies:
-        return (f"hold the same in {counted(family.rows, 'row')} of those that were looked at, as level 5 does where its third disk is lost and was "
-                "zeros there")
+        return (f"hold the same data in {counted(family.rows, 'row')} of those sampled, as RAID 5 does if its third disk is missing and held zeros "
+                "there")
     if family.is_either:
         images = len(family.images)
-        return (f"tied in {counted(family.rows, 'row')} alone of those that were looked at, as where the lost disks hold zeros: level 6 of which 2 "
-                f"disks of {images + 2} are lost, or level 5 of which 1 of {images + 1} is")
-    spare = "all its disks are there" if not lost else f"{counted(lost, 'disk')} of {family.members} {'is' if lost == 1 else 'are'} lost"
+        return (f"RAID 6 with 2 of {images + 2} disks missing, or RAID 5 with 1 of {images + 1}{place}. Parity matches in only "
+                f"{counted(family.rows, 'row')} of those sampled, perhaps because the missing disks hold zeros in these")
+    spare = f"{family.members} disks, {lost or 'none'} missing"
+    if family.loose and not lost:
+        spare += ", but not in all rows: one disk may be old or half rebuilt"
     if family.old:
-        spare += f", counting {'one that is' if len(family.old) == 1 else 'those that are'} old or damaged"
-    return f"tied as by parity of level {family.level}, {spare}"
+        spare += f", counting {'one that is' if len(family.old) == 1 else 'those that are'} old, damaged or from another array"
+    return f"parity matches RAID {family.level}, {spare}{place}"
 
 
-def lines(told: Told) -> list[str]:
-    """What is said of all that relations tell."""
+def lines(told: Told, twins: Mapping[int, int] | None = None) -> list[str]:
+    """What is said of all that relations tell; `twins` has the images that hold the same as another one from start to end, which are not asked."""
     said = []
     for it in told.known:
         family = it.family
         if family.level == COPIES:
-            said += [f"images {one} and {other} hold the same" for one, other in family.copies]
+            said += [f"images {one} and {other} hold the same data" for one, other in family.copies]
             if not family.copies:
                 two = named(family.images) if len(family.images) == LEAST_IMAGES else f"two of {named(family.images)}"
-                said.append(f"{two} hold the same in {counted(family.rows, 'row')} of those that were looked at")
+                said.append(f"{two} hold the same data in {counted(family.rows, 'row')} of those sampled")
             continue
         if family.may_be_copies:
-            said.append(f"{named(family.images)} hold the same in {counted(family.rows, 'row')} of those that were looked at: copies, or level 5 "
-                        "whose third disk is lost and zeros there")
+            said.append(f"{named(family.images)} hold the same data in {counted(family.rows, 'row')} of those sampled: copies, or RAID 5 whose third "
+                        "disk is missing and held zeros there")
             continue
-        chunk = f", chunks of {it.chunk} sectors" if it.chunk else ""
-        begin = f", first at sector {it.begin}" if it.begin is not None else ""
-        said.append(f"{named(family.images)}: {lost_line(family)}{chunk}{begin}")
+        chunk = f", chunks of {sectors_said(it.chunk)}" if it.chunk else ""
+        begin = f", first match at sector {it.begin}" if it.begin is not None else ""
+        said.append(f"{named(family.images)}: {lost_line(family, chunk + begin)}")
         said += [old.line(f"image {old.image}") for old in family.old] + ([family.reshape.line()] if family.reshape else [])
         if family.loose:
-            said.append(f"{named(family.images)}: in {counted(family.loose, 'row')} of those that were looked at, the first at sector "
-                        f"{family.loose_first}, nothing is tied: bad areas, one of the disks is old, or parity was never made there")
-    return said + parts_lines(told) + alone_lines(told)
+            said.append(f"{named(family.images)}: parity matches nothing in {counted(family.loose, 'row')} of those sampled, the first at sector "
+                        f"{family.loose_first}. Possible causes: bad areas, an old or half rebuilt disk, parity that was never written")
+    return said + parts_lines(told) + alone_lines(told, twins or {})
 
 
-def alone_lines(told: Told) -> list[str]:
-    """What is said of the images that nothing ties, where others are tied."""
-    if not told.alone or not told.known:
+def alone_lines(told: Told, twins: Mapping[int, int]) -> list[str]:
+    """What is said of the images that nothing ties, where others are tied. One that has a twin is tied to that one."""
+    alone = tuple(image for image in told.alone if image not in twins)
+    if not told.known:
         return []
+    said = [f"image {image}: matches only image {twins[image]}, which holds the same data" for image in told.alone if image in twins]
+    if not alone:
+        return said
     if all(it.family.level == COPIES for it in told.known):
-        return [f"{named(told.alone)}: tied to nothing; its copy is lost, or it is foreign, zeros or damaged"]
-    why = "foreign, zeros, too old or damaged to tell, or of an array that has lost as many disks as its level bears"
-    like = [it for it in nested(told) if len(told.alone) == (it.members or 0) - LEVELS[it.level or ""].parity]
-    parts = "".join(f", as the other part of a {NESTED[it.level or '']} with {named(it.images)} may have" for it in like[:1])
-    return [f"{named(told.alone)}: tied to nothing; {why}{parts}"]
+        return [*said, f"{named(alone)}: matches nothing. Its copy is missing, or it is no member, zeros or damaged"]
+    why = "No member, zeros, too old or damaged to tell, or from an array that misses as many disks as its level tolerates"
+    like = [it for it in nested(told) if len(alone) == (it.members or 0) - LEVELS[it.level or ""].parity]
+    parts = "".join(f", such as the other part of a {NESTED[it.level or '']} with {named(it.images)}" for it in like[:1])
+    return [*said, f"{named(alone)}: matches nothing. {why}{parts}"]
 
 
 def nested(told: Told) -> list[Family]:
@@ -171,6 +227,6 @@ def parts_lines(told: Told) -> list[str]:
     found: dict[tuple[str, int], list[Family]] = {}
     for family in nested(told):
         found.setdefault((family.level or "", family.members or 0), []).append(family)
-    return [f"{' and '.join(named(family.images) for family in alike)}: {len(alike)} arrays of level {level} with {members} disks each; each by "
-            f"itself, or the parts of one {NESTED[level]}, which is not searched (docs/USING.md has how to)"
+    return [f"{' and '.join(named(family.images) for family in alike)}: {len(alike)} arrays of RAID {level} with {members} disks each. Each "
+            f"stands by itself, or they are the parts of one {NESTED[level]}, which is not searched (docs/RECIPES.md tells how to join them)"
             for (level, members), alike in found.items() if len(alike) > 1]

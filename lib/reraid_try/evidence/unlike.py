@@ -37,7 +37,7 @@ class Unlike:
 
     def line(self) -> str:
         """What is said of it."""
-        return f"the data begin at unlike sectors of the images, at which parity ties them: {', '.join(map(str, self.offsets))}"
+        return f"the data begin at different sectors of the images; parity matches at these: {', '.join(map(str, self.offsets))}"
 
 
 def found_shifts(images: Sequence[Image], first: int, end: int) -> Distances:

@@ -28,18 +28,18 @@ FEW_GROUPS = 2
 class Family(enum.Enum):
     """What is loosened. Of a family one cure stands in a trial, but for groups and images, of which each has its number."""
 
-    WINDOW = "half the window"
+    WINDOW = "half the test range"
     END = "the end"
-    MARKS = "file records, misfits"
-    GROUP = "a group"
-    ALONE = "all groups but one"
+    MARKS = "file records, mismatches"
+    GROUP = "a landmark group"
+    ALONE = "all landmark groups but one"
     IMAGE = "what one image shows"
     BAD_ROWS = "bad rows"
-    DELAYS = "parity that stays"
+    DELAYS = "delayed parity"
     OFFSETS = "offsets"
     ORIGINS = "origins"
-    FIRST_ROWS = "the first rows alone"
-    BARE = "all groups"
+    FIRST_ROWS = "only the first rows"
+    BARE = "all landmark groups"
     UNREAD = "what maps call unread"
     LEFT_OUT = "images"
 
@@ -98,7 +98,7 @@ def group_cures(plan: Plan, every: bool) -> list[Cure]:
 def alone(plan: Plan, group: Group) -> Cure:
     """A group with all others left out."""
     rest = frozenset(it.place for it in plan.groups if it is not group)
-    return Cure(f"{group.name()} alone", Family.ALONE, without(rest), out=rest)
+    return Cure(f"only {group.name()}", Family.ALONE, without(rest), out=rest)
 
 
 def image_cures(plan: Plan) -> Iterator[Cure]:
@@ -107,7 +107,7 @@ def image_cures(plan: Plan) -> Iterator[Cure]:
     for image in sorted({mark.image for mark in plan.marks()}):
         places = frozenset(group.place for group in plan.groups if group.images() == {image})
         if 0 < len(places) < len(plan.groups):
-            yield Cure(f"without what image {image} alone shows", Family.IMAGE, without(places), image, out=places)
+            yield Cure(f"without what only image {image} shows", Family.IMAGE, without(places), image, out=places)
 
 
 def bare(plan: Plan) -> Cure:
@@ -121,7 +121,7 @@ def half_window(plan: Plan) -> Cure:
     def change(request: Request) -> Request:
         window = min(request.number("window", plan.end), plan.end)
         return request.having(window=max(1, window // 2))
-    return Cure("half the window", Family.WINDOW, change)
+    return Cure("half the test range", Family.WINDOW, change)
 
 
 def before_superblock(plan: Plan) -> Cure:
@@ -131,7 +131,7 @@ def before_superblock(plan: Plan) -> Cure:
 
     def change(request: Request) -> Request:
         return request.having(end=max(1, min(end, request.number("end"))), window=max(1, min(end, request.number("window", end))))
-    return Cure("an end before a superblock", Family.END, change)
+    return Cure("end before a superblock", Family.END, change)
 
 
 def no_records() -> Cure:
@@ -141,7 +141,7 @@ def no_records() -> Cure:
 
 def misfits() -> Cure:
     """Some misfits in each group."""
-    return Cure(f"{MISFITS} misfits", Family.MARKS, lambda request: request.having(misfits=MISFITS))
+    return Cure(f"{MISFITS} mismatches", Family.MARKS, lambda request: request.having(misfits=MISFITS))
 
 
 def bad_rows(rows: int, offsets: Collection[int]) -> Cure:

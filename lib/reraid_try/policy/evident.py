@@ -8,12 +8,15 @@ from collections.abc import Iterable, Iterator, Sequence
 from typing import TYPE_CHECKING
 
 from ..calls.formats import Ranked
-from ..calls.program import Listing
+from ..calls.program import Copied, Listing
 from ..calls.sets import read_word
 from ..calls.surveys import known_kinds
 from ..checks.candidates import Candidate
 from ..checks.verdicts import Score
-from ..evidence import gathered, hints, metadata, places, shared, shifts, ties, unlike
+from ..errors import OutsideError, said
+from ..evidence import copies as copying
+from ..evidence import stopped as early_ends
+from ..evidence import gathered, hints, metadata, places, sampling, shared, shifts, ties, unlike
 from ..evidence.families import LEVEL_5, LEVEL_6
 from ..evidence.images import Image
 from ..evidence.places import Places
@@ -22,7 +25,8 @@ from ..evidence.shared import Place
 from ..evidence.shifts import Distances
 from ..evidence.ties import Ties, Told
 from ..evidence.unlike import Unlike
-from . import cures, mirrors, plain, thousands
+from ..units import SECTOR
+from . import cures, mirrors, plain, proposed, stopped, thousands
 from .cures import Family
 from .hunt import Hunt
 from .plain import Aim, Span, Unsound
@@ -72,13 +76,13 @@ class Evident:
         seconds = search.options.question_seconds
         self.options = dataclasses.replace(search.options, seconds=seconds, question=seconds)
         self.searched: list[Part] = []
-        self.ties: Ties | None = None
+        self.told = Told()
         self.kept: tuple[Aim, Relations | None] | None = None
+        self.copied_pairs: list[tuple[int, int]] = []
 
     def asked(self) -> Ties:
         """Who is asked how the images depend on one another."""
-        self.ties = self.ties or Ties(self.search.commands, self.search.images, self.search.options.seconds)
-        return self.ties
+        return self.search.ties
 
     def run(self) -> bool:
         """All of them; it says whether a candidate of some part of the disks says enough."""
@@ -90,9 +94,10 @@ class Evident:
         search = self.search
         for part in self.searched:
             if part.span.partition:
-                search.report.say("reason", f"goes on in the partition from sector {part.span.first} on", first=part.span.first, end=part.span.end)
-                return Hunt(search.options, search.commands, self.within(part.images, part.span), search.say_late, start=part.span.first)
-        return Hunt(search.options, search.commands, search.images, search.say_late)
+                search.report.say("reason", f"continuing in the partition from sector {part.span.first} on", first=part.span.first, end=part.span.end)
+                images = self.within(part.images, part.span)
+                return Hunt(search.options, search.commands, images, search.say_late, start=part.span.first, shared=search.surveys)
+        return Hunt(search.options, search.commands, search.images, search.say_late, shared=search.surveys)
 
     def within(self, numbers: Iterable[int], span: Span) -> list[Image]:
         """Images by their numbers, as they are seen in a part of the disks."""
@@ -123,7 +128,7 @@ class Evident:
         found = shared.looked_at(images)
         searched = shared.searched(found)
         for place in found:
-            said = "" if place in searched else "; passed over"
+            said = "" if place in searched else "; skipped"
             report.say("place", f"{place.line()}{said}", first=place.first, sectors=place.count, images=list(place.images), copied=place.copied,
                        empty=place.empty, searched=place in searched)
         for place in searched:
@@ -133,17 +138,35 @@ class Evident:
 
     def aims(self, part: Part) -> list[Aim]:
         """What is tried of a part, after what is known of it is printed."""
-        self.search.report.bar.show("asks how the images depend on one another")
+        self.search.report.bar.show("tests which images parity matches")
         asked = self.asked()
         found = asked.told(part.images, part.span.first, part.span.end)
-        self.say("relation", ties.lines(found))
+        if found.known or not self.told.asked:
+            self.told = found
+        if not part.span.partition and not found.known and self.search.is_closed(found):
+            return self.by_metadata(part)
+        twins = {image.like: image.number for image in self.search.images if image.like is not None}
+        self.say("relation", ties.lines(found, twins))
+        self.copied_pairs = [pair for it in found.known for pair in it.family.copies]
         self.search.stale |= {old.image for it in found.known for old in it.family.old}
         self.search.reshapes += [it.family.reshape for it in found.known if it.family.reshape and it.family.reshape not in self.search.reshapes]
         ways = plain.perhaps_copied, plain.tied, plain.copied, plain.untied
         perhaps, tied, copied, untied = (of(found, part.images, part.span, self.options) for of in ways)
         copied, alike = plain.without_each(copied, plain.doubtful(found)), plain.without_each(self.alike(part), [] if tied else self.without_like())
-        others = [*self.unlike(asked, found, part), *perhaps[:1], *tied, *perhaps[1:], *copied, *alike, *untied]
-        return [*self.by_metadata(part), *plain.with_thousands(others, plain.silent(found, part.images, self.options))]
+        # Of large images that are the same it is known at once how they are grouped.
+        early = alike[:1] if sampling.is_large(part.span.first, part.span.end) else []
+        there = [image for image in self.search.images if image.first is not None]
+        copied[1:1] = plain.halves_aims(found, there, part.span, self.options)
+        others = [*early, *self.unlike(asked, found, part), *perhaps[:1], *tied, *perhaps[1:], *copied, *alike[len(early):], *untied]
+        others = plain.with_thousands(others, plain.silent(found, part.images, self.options))
+        return [*self.by_metadata(part), *self.without_stopped(found, part), *others]
+
+    def without_stopped(self, found: Told, part: Part) -> list[Aim]:
+        """What is tried of a part without images whose imaging may have stopped, which are named."""
+        images = [self.search.images[number] for number in part.images]
+        short = early_ends.found(images, part.span.end if part.span.partition else max(image.sectors for image in images))
+        self.say("stopped", (stopped.line(image, images) for image in short))
+        return stopped.aims(short, found, part.span, images, self.options)
 
     def alike(self, part: Part) -> list[Aim]:
         """What is tried where whole images are the same, as the copies of a RAID 1 or 10 are."""
@@ -173,7 +196,11 @@ class Evident:
         self.say("metadata", (it.line(f"image {it.image}") for it in members))
         found = [plain.metadata_aim(it, part.span, self.options) for it in metadata.arrays(members)]
         # A set with an offset for each image has to name all.
-        return [aim for aim in found if aim and aim.shapes and (not aim.is_each or len(aim.images) == len(self.search.images))]
+        named = [aim for aim in found if aim and aim.shapes and (not aim.is_each or len(aim.images) == len(self.search.images))]
+        if not sampling.is_large(part.span.first, min(part.span.end, part.span.first + self.options.first // SECTOR)):
+            return named
+        exact = [plain.named_aim(it, part.span, self.options, len(self.search.images)) for it in metadata.arrays(members)]
+        return [*filter(None, exact), *named]
 
     def unlike(self, asked: Ties, found: Told, part: Part) -> list[Aim]:
         """What is tried of images that nothing ties, where distances tell that their data begin at unlike sectors, or that they are copies which lie
@@ -191,11 +218,18 @@ class Evident:
         if found.known:
             return []
         distance = shifts.apart(shown.told, len(images)) if self.options.wants("10") else None
-        copies = [plain.apart_aim(distance, part.images, span)] if distance else []
+        copies = [plain.apart_aim(distance, part.images, span)] if distance and self.lie_apart(images, distance, span) else []
         guessed = () if span.partition else unlike.guessed(images, shown.told)
         begins = plain.guessed_aims(guessed, part.images, span, self.options) if guessed else []
         # Distances that need not agree with one beginning of each image, and do, are none of copies.
         return [*begins, *copies] if shifts.agree(shown.told, len(images)) else [*copies, *begins]
+
+    def lie_apart(self, images: Sequence[Image], distance: int, span: Span) -> bool:
+        """Most of what images hold stands on another one too, so many sectors apart."""
+        try:
+            return copying.lie_apart([image.name for image in images], distance, span.first, span.end)
+        except OSError as error:
+            raise OutsideError(f"an image cannot be read: {said(error)}") from error
 
     def offsets(self, asked: Ties, images: Sequence[Image], shown: Distances, end: int) -> list[Unlike]:
         """The offsets at which parity ties these images, by distances and by what texts of LVM2 name."""
@@ -208,14 +242,21 @@ class Evident:
         """The trials of an aim; where it is one of several that are alike but for where the data begin, those with something loosened are left for
         later. It says whether a candidate says enough."""
         search = self.search
-        search.report.say("reason", f"looks for this first: {aim.why}", images=list(aim.images), first=aim.span.first, end=aim.span.end, why=aim.why)
+        search.report.say("reason", f"trying first: {aim.why}", images=list(aim.images), first=aim.span.first, end=aim.span.end, why=aim.why)
         before, search.why = len(search.tested), aim.why
         images = self.within(aim.images, aim.span)
         search.report.bar.show("surveys the images")
-        hunt = Hunt(self.options, search.commands, images, search.say_late, start=aim.span.first, asked=dict(aim.asked), tied=aim.tied)
+        options = self.options if aim.first is None else dataclasses.replace(self.options, first=aim.first)
+        hunt = Hunt(options, search.commands, images, search.say_late, start=aim.span.first, asked=dict(aim.asked), tied=aim.tied,
+                    shared=search.surveys)
         hunt.ask_places = functools.partial(self.places_of, aim)
         search.say_evidence(hunt)
-        ended = self.by_thousands(hunt, aim, before) or aim.copied and self.copies(hunt, aim, before) or self.plainly(hunt, aim, before)
+        if aim.word:
+            self.test_named(hunt, aim, aim.word)
+            search.why = ""
+            return any(it.score is Score.WHOLE or it.found.has_whole_files for it in self.since(before))
+        ended = self.read_off(hunt, aim, before) or self.by_thousands(hunt, aim, before)
+        ended = ended or aim.copied and self.copies(hunt, aim, before) or self.plainly(hunt, aim, before)
         if aim.unsound and self.with_all(hunt, aim, aim.unsound, before):
             ended = True
         if not ended:
@@ -225,6 +266,17 @@ class Evident:
                 self.loosened(hunt, aim, before)
         search.why = ""
         return any(map(enough, self.since(before)))
+
+    def test_named(self, hunt: Hunt, aim: Aim, text: str) -> None:
+        """Tests the set that metadata name."""
+        word, shape = read_word(text).over(aim.images), aim.shapes[0]
+        listing = Listing((Ranked(0, word.text),), 1, True, "named by metadata")
+        if word.copying:
+            trial = Trial(shape, copied=Copied((word.copying,), shape.members, shape.missing))
+        else:
+            trial = Trial(shape, request=hunt.asking.request(shape))
+        told = self.search.say_trial(hunt, trial, listing)
+        self.search.take(hunt, told, listing.sets, lambda it: (None if word.copying else word, hunt.word(it.text)))
 
     def with_all(self, hunt: Hunt, aim: Aim, unsound: Unsound, before: int) -> bool:
         """The trials of an aim with all images of the family in slots, where rows may be bad, unless such a candidate has a sign already: what leaves
@@ -236,7 +288,7 @@ class Evident:
         search.why = unsound.line()
         if unsound.images != aim.images:
             hunt = Hunt(self.options, search.commands, self.within(unsound.images, aim.span), search.say_late, start=aim.span.first,
-                        asked=dict(aim.asked), tied=True)
+                        asked=dict(aim.asked), tied=True, shared=search.surveys)
         hunt.program.seconds = search.options.seconds
         steps = (with_bad_rows(count, unsound.shape) for count in range(1, MOST_LOOSENED + 1))
         found = any(search.take_step(step, hunt) or self.has_all(unsound, before) for step in steps)
@@ -256,6 +308,14 @@ class Evident:
 
     def copies(self, hunt: Hunt, aim: Aim, before: int) -> bool:
         """RAID 10 by its copies, with as few members missing as may be; it says whether the search is at its end, or a candidate is content."""
+        pairs = self.copied_pairs + [(image.like, image.number) for image in self.search.images if image.like is not None]
+        if aim.halves:
+            pairs = [pair for pair in pairs if pair not in aim.halves]
+            ways = list(mirrors.without_one(pairs, aim.halves, aim.images))
+            return any(self.search.grouped(hunt, it, counts) or self.is_content(before) for counts in mirrors.PLAIN_FIRST for it in ways)
+        grouped = mirrors.told(pairs, aim.images) if sampling.is_large(0, hunt.evidence.end) and not aim.apart else None
+        if grouped and (self.search.grouped(hunt, grouped) or self.is_content(before)):
+            return True
         count = len(aim.images)
         asked = mirrors.moved(count, aim.apart, hunt.evidence) if aim.apart else mirrors.near(count, self.alike_count(aim.images))
         return any(self.search.mirrors(hunt, it) or self.is_content(before) for it in asked if it.missing in aim.missing)
@@ -282,11 +342,17 @@ class Evident:
     def zero_rows(self, aim: Aim) -> Relations | None:
         """The relations of many rows of the images of an aim, kept until others are asked for; None where they were not had in their time."""
         if self.kept is None or self.kept[0] != aim:
-            self.search.report.bar.show("asks in which rows zeros are")
+            self.search.report.bar.show("looks for rows of zeros")
             end = min(aim.span.end, *(self.search.images[image].sectors for image in aim.images)) - max(aim.moved, default=0)
-            step = max(1, (end - aim.span.first) // places.MOST_ROWS)
-            self.kept = aim, self.asked().relations(aim.images, aim.span.first, end, step, aim.moved)
+            self.kept = aim, self.zeros(aim, end)
         return self.kept[1]
+
+    def zeros(self, aim: Aim, end: int) -> Relations | None:
+        """The relations of many rows of the images of an aim up to an end."""
+        if sampling.is_large(aim.span.first, end):
+            return self.asked().spread(aim.images, aim.span.first, end, places.MOST_ROWS, aim.moved)
+        step = max(1, (end - aim.span.first) // places.MOST_ROWS)
+        return self.asked().relations(aim.images, aim.span.first, end, step, aim.moved)
 
     def unread(self, aim: Aim) -> Iterator[range]:
         """The runs of rows in which maps call a sector of the images of an aim unread."""
@@ -313,13 +379,19 @@ class Evident:
         if not words:
             return False
         listing = Listing(tuple(Ranked(rank, word) for rank, word in enumerate(words)), None, True,
-                          "those against which the fewest rows with zeros speak; no others were looked at")
-        bare = cures.told("all landmarks, in place of which zeros tell where parity lies", Family.BARE, [group.place for group in hunt.plan.groups])
+                          "those that the fewest rows of zeros contradict; no others were tested")
+        bare = cures.told("all landmarks (rows of zeros show the places of parity)", Family.BARE, [group.place for group in hunt.plan.groups])
         # What a fresh NTFS numbers 0 is no reason to call its group one that does not hold.
         request = dataclasses.replace(hunt.asking.request(shape), records=True)
         chosen = (bare, cures.delays()) if delay > 1 else (bare,)
         trial = self.search.say_trial(hunt, Trial(shape, chosen, cures.loosened(request, chosen[1:])), listing)
         return self.search.take(hunt, trial, listing.sets, lambda it: (read_word(it.text), hunt.word(it.text)))
+
+    def read_off(self, hunt: Hunt, aim: Aim, before: int) -> bool:
+        """The set that landmarks by the thousand propose; it says whether the search is at its end, or a candidate is content."""
+        shapes = () if aim.is_each else aim.by_thousands or aim.shapes
+        kinds = [kind for kind in thousands.seen(hunt) if kind in self.later_kinds] if shapes else []
+        return bool(kinds) and (proposed.attempt(self.search, hunt, shapes, kinds) or self.is_content(before))
 
     def by_thousands(self, hunt: Hunt, aim: Aim, before: int) -> bool:
         """The sets at which the most landmarks by the thousand lie where they say, where the program knows such; it says whether the search is at
@@ -343,6 +415,8 @@ class Evident:
     def loosened(self, hunt: Hunt, aim: Aim, before: int) -> None:
         """The trials of the shapes of an aim with ever more loosened, until a candidate is whole, encrypted or content; of the shapes alone of which
         one is content already, where there are such. `before` is how many candidates were tested before those of the aim."""
+        if self.search.is_hopeless(self.told):
+            return
         hunt.program.seconds = self.options.seconds
         content = tuple(shape for shape in aim.shapes if self.is_content(before, shape))
         aim = dataclasses.replace(aim, shapes=content or aim.shapes)

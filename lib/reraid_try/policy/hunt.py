@@ -8,11 +8,12 @@ from ..calls.commands import Runner, quoted
 from ..calls.plans import Plan
 from ..calls.program import MOST_LINES, Listing, Program
 from ..calls.sets import NEAR, Copying, Word, mirrored, read_word
-from ..calls.surveys import Request, Surveys
+from ..calls.surveys import Request
 from ..evidence import gathered
 from ..evidence.gathered import Pairs
 from ..evidence.images import Image
 from ..evidence.places import Places
+from ..evidence.surveying import LargeSurveys, Shared, every_kind
 from ..options import Options
 from ..units import listed
 from .cures import Cure, Family, choices, loosened
@@ -29,15 +30,15 @@ FEW_SETS = 1
 
 class Hunt:
     """A search over these images, behind a start on each. With `pairs` its sets are those of a RAID 0 of one image of each pair; `asked` is asked for
-    in each trial; `tied` says that parity ties the images. `late` is told of each question that ran out of its time; `cut_short` has the plans of
-    which the listing did."""
+    in each trial; `tied` says that parity ties the images; `shared` has the surveys of other hunts. `late` is told of each question that ran out of
+    its time; `cut_short` has the plans of which the listing did."""
 
     def __init__(self, options: Options, commands: Runner, images: Sequence[Image], late: Late, pairs: Pairs | None = None,
-                 start: int = 0, asked: Mapping[str, str | int] | None = None, tied: bool = False) -> None:
+                 start: int = 0, asked: Mapping[str, str | int] | None = None, tied: bool = False, shared: Shared | None = None) -> None:
         self.commands = commands
         names = [image.name for image in images]
         self.program = Program(commands, names, options.seconds, options.jobs)
-        self.surveys = Surveys(commands, names)
+        self.surveys = LargeSurveys(commands, names, shared)
         evidence = gathered.gather(self.surveys, images, options.first, pairs, start)
         self.evidence = dataclasses.replace(evidence, base=evidence.base.having(**(asked or {})))
         self.asking = Asking(self.evidence, options)
@@ -57,6 +58,11 @@ class Hunt:
     def plan(self) -> Plan:
         """The first plan."""
         return self.evidence.plan
+
+    @property
+    def near_plan(self) -> Plan:
+        """The first plan, with the places of the images in this hunt in place of their numbers among all, and with landmarks of later kinds."""
+        return self.surveys.plan(self.evidence.base.having(kinds=every_kind()))
 
     def ways(self, shape: Shape, step: Step) -> Iterator[tuple[tuple[Cure, ...], Request]]:
         """The requests of a step for a shape, in order, each with what is loosened at once. Where parity tells something, what changes it is loosened
@@ -101,7 +107,7 @@ class Hunt:
         if places is None or not found.sets:
             return found
         kept = tuple(itertools.compress(found.sets, places.allowed([self.word(it.text) for it in found.sets])))
-        told = f"{len(found.sets) - len(kept)} more have parity where zeros are" if len(kept) < len(found.sets) else ""
+        told = f"{len(found.sets) - len(kept)} more contradict rows of zeros" if len(kept) < len(found.sets) else ""
         return dataclasses.replace(found, sets=kept, note="; ".join(filter(None, [found.note, told])))
 
     def places_at(self, shape: Shape, few: bool = False) -> Places | None:

@@ -1,6 +1,7 @@
 """RAID 10 by its copies: what is asked of them, which images hold the same, and the hunts over one image of each such group."""
 
 import dataclasses
+import itertools
 from collections.abc import Iterable, Iterator, Sequence
 
 from ..calls.commands import Runner, quoted
@@ -8,7 +9,7 @@ from ..calls.formats import Page, Ranked
 from ..calls.program import MOST_LINES, Copied, Listing
 from ..calls.sets import FAR, MOST_COPIES, NEAR, NEAR_2, OFFSET, Copying, read_word
 from ..evidence import shifts
-from ..evidence.families import CHUNKS
+from ..evidence.families import CHUNKS, connected
 from ..evidence.gathered import Evidence, Pairs
 from ..evidence.images import Image
 from .hunt import Hunt
@@ -20,6 +21,8 @@ MOST_GROUPINGS = 8
 # So many members may be missing at most, and chunks are so long at most where copies do not tell them.
 MOST_MISSING, MOST_CHUNK = 3, 2048
 COPIES = range(2, MOST_COPIES + 1)
+# Of several ways to leave images out all are tried with nothing loosened before one is with something.
+PLAIN_FIRST = (range(1), range(1, 3))
 Group = tuple[int, ...]
 
 
@@ -72,7 +75,7 @@ class Grouped:
 
     def line(self, images: Sequence[Image]) -> str:
         """What is said of it."""
-        said = " ".join("=".join(str(images[one].number) for one in group) if len(group) > 1 else f"image {images[group[0]].number} alone"
+        said = " ".join("=".join(str(images[one].number) for one in group) if len(group) > 1 else f"image {images[group[0]].number} without a copy"
                         for group in self.groups)
         return f"  {'pairs' if self.copies == NEAR_2.copies else 'copies'} {said}: a RAID 0 of {len(self.groups)} disks"
 
@@ -94,6 +97,27 @@ def groupings(sets: Iterable[Ranked]) -> list[Grouped]:
         groups = (there(word.slots[first:first + word.together]) for first in range(0, len(word.slots), word.together))
         found.setdefault((frozenset(filter(None, groups)), word.together), set()).add(word.offset)
     return [Grouped(tuple(sorted(groups)), copies, tuple(sorted(offsets))) for (groups, copies), offsets in found.items()][:MOST_GROUPINGS]
+
+
+def told(pairs: Iterable[tuple[int, int]], images: Sequence[int]) -> Grouped | None:
+    """Return the way in which ties group images of large disks, by their numbers: those that hold the same are a group, and each that none does is
+    one by itself, as its copy may be lost. None where that is no RAID 10 with copies side by side."""
+    places = {image: place for place, image in enumerate(images)}
+    found = [tuple(sorted(places[image] for image in group)) for group in connected(pairs) if group <= places.keys()]
+    copies = max(map(len, found), default=0)
+    found += [(place,) for place in sorted(places.values()) if not any(place in group for group in found)]
+    missing = sum(copies - len(group) for group in found)
+    return Grouped(tuple(sorted(found)), copies, ()) if copies in COPIES and len(found) > 1 and missing <= MOST_MISSING else None
+
+
+def without_one(pairs: Iterable[tuple[int, int]], halves: Sequence[tuple[int, int]], images: Sequence[int]) -> Iterator[Grouped]:
+    """Yield the ways in which these pairs group some images, by their numbers, each with one image of each half left out: two that hold the same in
+    most rows alone may be a disk and an older state of its copy."""
+    places, known = {image: place for place, image in enumerate(images)}, tuple(pairs)
+    for kept in itertools.product(*halves):
+        rest = [image for image in images if image in kept or not any(image in half for half in halves)]
+        if found := told(known, rest):
+            yield dataclasses.replace(found, groups=tuple(tuple(places[rest[place]] for place in group) for group in found.groups))
 
 
 def there(slots: Iterable[int | None]) -> Group:
@@ -136,7 +160,7 @@ class Mirrors:
         whole = program.mirrors(large)
         if not whole.late:
             return Listing(whole.sets, whole.total or 0, True)
-        return self.late(page, f"in the first {small} rows alone: ") if told else self.late(Page())
+        return self.late(page, f"in only the first {small} rows: ") if told else self.late(Page())
 
     def late(self, page: Page, where: str = "") -> Listing:
         """What was listed before its time was up."""

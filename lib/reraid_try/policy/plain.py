@@ -3,14 +3,16 @@
 import dataclasses
 from collections.abc import Iterable, Iterator, Sequence
 
-from ..calls.sets import LEVELS
+from ..calls.sets import LEVELS, read_word
 from ..evidence import metadata, shifts, ties
 from ..evidence.families import COPIES, LEVEL_5, Family
+from ..evidence.gathered import MOST_WINDOW
+from ..evidence.images import Image
 from ..evidence.metadata import Member
 from ..evidence.ties import Known, Told
 from ..evidence.unlike import Unlike
 from ..options import Options
-from ..units import listed
+from ..units import SECTOR, listed
 from .cures import EACH_WINDOW
 from .mirrors import MOST_MISSING
 from .shapes import Shape
@@ -42,7 +44,7 @@ class Unsound:
 
     def line(self) -> str:
         """Why it is tried."""
-        return f"bad areas may be in place of an old disk, so all of {ties.named(self.images)} are tried too, with rows that may be bad"
+        return f"perhaps no disk is old, but some areas are bad. So all of {ties.named(self.images)} are tried too, with bad rows allowed"
 
 
 @dataclasses.dataclass(frozen=True)
@@ -52,7 +54,9 @@ class Aim:
     them; `begin` is a row of the array, so that its data do not begin later, None where none is known; `moved` has the offset of each image, where
     these are known and not the same; `apart` says how far apart the copies lie, where they do not lie side by side; `missing` are the numbers of
     members that may be missing where copies are asked for; `by_thousands` are the shapes at
-    which landmarks by the thousand are asked where they fit, before all else; `unsound` is tried besides, whatever is found without some images."""
+    which landmarks by the thousand are asked where they fit, before all else; `unsound` is tried besides, whatever is found without some images;
+    `first` is how many bytes of each image are read for it, None where it is as many as for all others; `word` is the one set that is tried; `halves`
+    are pairs of which each image is left out in turn."""
 
     images: tuple[int, ...]
     span: Span
@@ -67,6 +71,9 @@ class Aim:
     missing: tuple[int, ...] = tuple(range(MOST_MISSING + 1))
     by_thousands: tuple[Shape, ...] = ()
     unsound: Unsound | None = None
+    first: int | None = None
+    word: str | None = None
+    halves: tuple[tuple[int, int], ...] = ()
 
     @property
     def is_each(self) -> bool:
@@ -130,7 +137,7 @@ def guessed_aims(offsets: Sequence[int], numbers: Sequence[int], span: Span, opt
     """What is tried of images that hold the same at distances which agree with one beginning of each, where parity does not tie them: as many disks
     lost as a level bears."""
     asked = (("mode", "each"), ("offsets", listed(offsets)), ("window", str(EACH_WINDOW)))
-    why = f"the images hold the same as far apart as if their data began at these sectors: {', '.join(map(str, offsets))}"
+    why = f"the distances between equal data on the images suggest that their data begin at sectors {', '.join(map(str, offsets))}"
     count = len(numbers)
     shapes = allowed([Shape("5", count + 1, 1), Shape("6", count + 2, 2)], options)
     return [Aim(tuple(numbers), span, why, shapes, asked)] if shapes else []
@@ -149,7 +156,22 @@ def metadata_aim(members: Sequence[Member], span: Span, options: Options) -> Aim
     asked += [("mode", "each"), ("window", str(EACH_WINDOW))] if len(offsets) > 1 else []
     images = tuple(sorted({it.image for it in placed}))
     shapes = allowed([Shape(level, placed[0].disks, placed[0].disks - len(images))], options) if len(images) <= placed[0].disks else ()
-    return Aim(images, span, f"metadata on {ties.named(images)} name it ({placed[0].source}), which may be wrong", shapes, tuple(asked))
+    return Aim(images, span, f"metadata on {ties.named(images)} ({placed[0].source}) describe it, and may be wrong", shapes, tuple(asked))
+
+
+def named_aim(members: Sequence[Member], span: Span, options: Options, images: int) -> Aim | None:
+    """Return what is tried of large images whose metadata name an array with the slot of each: just that set, before more is read than what parity is
+    tested in. None where they do not, or each image has an offset of its own."""
+    text = metadata.word_of(members, images)
+    word = read_word(text) if text else None
+    if word is None or word.is_each:
+        return None
+    shape = Shape(COPIES if word.is_mirrored else word.level, len(word.slots), word.lost)
+    is_asked = options.wants(shape.levels) and (options.members is None or shape.members in options.members)
+    there, first = tuple(sorted(word.images)), (word.offset + MOST_WINDOW) * SECTOR
+    why = f"metadata on {ties.named(there)} ({members[0].source}) give a layout, which may be wrong; little is read to test it"
+    asked = (("offsets", str(word.offset)), ("chunks", str(word.chunk)))
+    return Aim(there, span, why, (shape,), asked, first=first, word=word.text) if is_asked else None
 
 
 def tied(told: Told, _numbers: Sequence[int], span: Span, options: Options) -> list[Aim]:
@@ -189,24 +211,35 @@ def without_each(aims: Iterable[Aim], images: Sequence[int]) -> list[Aim]:
     found = []
     for aim in aims:
         without = [dataclasses.replace(aim, images=tuple(it for it in aim.images if it != image), missing=FEW_MISSING,
-                                       why=f"{aim.why}; image {image} may be foreign or a bad copy, so it is left out")
+                                       why=f"{aim.why}; image {image} may be no member or a bad copy, so it is left out")
                    for image in images if len(aim.images) > LEAST_STRIPED]
         few, more = (dataclasses.replace(aim, missing=missing) for missing in (FEW_MISSING, MORE_MISSING))
         found += [few, *without, more] if without else [aim]
     return found
 
 
+def halves_aims(told: Told, images: Sequence[Image], span: Span, options: Options) -> list[Aim]:
+    """What is tried where two images hold the same in most rows and not in all, beside others: RAID 10 without each of the two in turn, since one
+    may be an older state of the other, as a stale copy is, or a disk that was imaged twice."""
+    same = {frozenset((image.number, image.like)) for image in images if image.like is not None}
+    known = [it.family for it in told.known if it.family.level == COPIES and len(it.family.images) == 2]
+    halves = tuple((one, other) for one, other in (it.images for it in known) if frozenset((one, other)) not in same)
+    if not halves or len(images) <= LEAST_STRIPED or span.partition or not options.wants(COPIES):
+        return []
+    said = "; ".join(f"images {one} and {other} hold the same in most rows: one may be an older state of the other" for one, other in halves)
+    return [Aim(tuple(image.number for image in images), span, f"{said}, so each is left out in turn", copied=True, halves=halves)]
+
+
 def apart_aim(distance: int, numbers: Sequence[int], span: Span) -> Aim:
     """What is tried of images that hold the same so many sectors apart: RAID 10 of all of them."""
-    why = (f"the images hold the same {distance} sectors apart, as RAID 10 with copies of layout {shifts.layout(distance)} does, and as any array "
-           "may in which the same files are stored twice, or whose data begin at unlike sectors")
+    why = (f"much of the data is on another image too, {distance} sectors apart, as in RAID 10 of layout {shifts.layout(distance)}")
     return Aim(tuple(numbers), span, why, copied=True, apart=distance)
 
 
 def untied(told: Told, numbers: Sequence[int], span: Span, options: Options) -> list[Aim]:
     """What is tried of images that nothing ties: RAID 0, and arrays that have lost as many disks as their level bears."""
     shapes = () if told.known else silent(told, numbers, options)
-    why = f"nothing ties {ties.named(numbers)}, as at level 0 and where as many disks are lost as a level bears"
+    why = f"{ties.named(numbers)}: parity matches nothing, as with RAID 0 or the maximum of missing disks"
     return [Aim(tuple(numbers), span, why, shapes)] if shapes else []
 
 

@@ -43,9 +43,9 @@ class Asking:
 
     def request(self, shape: Shape, every: bool = False) -> Request:
         """What is asked for with nothing loosened, but for the rows that maps call unread; with those offsets too behind which little is filled,
-        where every one is asked for."""
+        where every one is asked for and landmarks rule sets out: parity of zeros allows any."""
         tried = self.evidence.tried
-        offsets = [offset for offset in tried if (self.tells(offset) if every else self.has_weight(offset))]
+        offsets = [offset for offset in tried if (self.tells(offset) if every and self.evidence.plan.groups else self.has_weight(offset))]
         values: dict[str, str | int] = {"levels": shape.levels, "members": shape.members, "offsets": listed(offsets or tried)}
         values |= {"missing": shape.missing} if shape.missing else {}
         values |= {"foreign": shape.foreign} if shape.foreign else {}

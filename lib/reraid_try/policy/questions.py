@@ -65,11 +65,11 @@ class Questions:
     def parity_allows(self, plan: Plan, shape: Shape) -> First:
         """The first set that parity alone allows. What is asked of landmarks says nothing there, and makes no other question of the same one."""
         alone = plan.having(levels=shape.telling, origins=0, misfits=0).bare()
-        return self.first(alone.text(), "parity alone allows")
+        return self.first(alone.text(), "parity allows")
 
     def landmarks_allow(self, plan: Plan) -> First:
         """The first set that landmarks alone allow."""
-        return self.first(plan.having(window=1, badrows=1).text(), "landmarks alone allow")
+        return self.first(plan.having(window=1, badrows=1).text(), "landmarks allow")
 
     def allowed_by_landmarks(self, plan: Plan) -> int:
         """About how many sets landmarks alone allow, at least one."""
@@ -114,7 +114,7 @@ class Questions:
             page = None if time.monotonic() > until else self.program.page(text, most=beyond + 1, seconds=self.seconds)
             if page and not page.late:
                 return len(page.sets) <= beyond
-            self.late("enough marks of a group allow", self.seconds)
+            self.late("enough landmarks allow", self.seconds)
             return None
         # Most shapes have no set with more than another one, which one question tells.
         if above and (above >= marks or fails(above + 1) is not False):

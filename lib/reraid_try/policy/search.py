@@ -4,30 +4,34 @@ import contextlib
 import dataclasses
 from collections.abc import Callable, Iterable, Iterator, Sequence
 
+from ..calls import meter
 from ..calls.commands import Runner
 from ..calls.formats import Ranked
 from ..calls.memory import Memory
 from ..calls.program import Copied, Listing
 from ..calls.sets import NEAR_2, Word, read_word, simplest
 from ..calls.surveys import Request
-from ..checks import kin
+from ..checks import kin, settling
+from ..checks.alone import Alone
 from ..checks.candidates import Candidate
 from ..checks.rows import Rows
 from ..checks.tests import Tests
 from ..checks.verdicts import Score
 from ..checks.volumes import Room
-from ..errors import Refused, Stopped
-from ..evidence import fills
+from ..errors import OutsideError, Refused, Stopped, said
+from ..evidence import amounts, fills
 from ..evidence import images as seen
 from ..evidence.families import Reshape
 from ..evidence.images import Image
-from ..evidence.ties import Ties
-from ..options import Options
+from ..evidence.surveying import Shared
+from ..evidence.ties import Ties, Told
+from ..options import LEVELS, Options
 from ..report import words
 from ..report.diagnosis import Diagnosis
 from ..report.report import Report
-from ..units import ALL, KIB, MIB, MOST_IMAGES, SECTOR, counted
+from ..units import ALL, KIB, MIB, MOST_IMAGES, SECTOR, counted, size_said
 from . import cures
+from .answers import Answer, Answers, Kind
 from .cures import Cure, Family
 from .evident import Evident
 from .hunt import Hunt
@@ -49,7 +53,8 @@ class Search:
     """One run: what is seen, what is tried, and the candidates. `hunt` is that over all images, `hunts` are all that were begun, `shapes_tried` of
     which shapes there were trials, `stale` the images that ties name as old, `reshapes` where ties change for good, `said_fills` the lines on texts
     in images, `why` for what reason the next trials are; `solved` says that a candidate says enough of what evidence gave a reason for, so that there
-    is no hunt over all images; `memory` keeps what is found in volumes, where another run may go on with it."""
+    is no hunt over all images; `answer` says what the images are if they are no array; `memory` keeps what is found in volumes, where another run may
+    go on with it."""
 
     tests: Tests
     hunt: Hunt
@@ -61,17 +66,23 @@ class Search:
         self.known: set[str] = set()
         self.number, self.said_on, self.was_late, self.solved = 0, False, False, False
         self.hunts: list[Hunt] = []
+        self.surveys = Shared()
         self.shapes_tried: set[str] = set()
         self.stale: set[int] = set()
         self.reshapes: list[Reshape] = []
         self.said_fills: set[str] = set()
+        self.said_room = False
         self.why = ""
+        self.answer: Answer | None = None
+        self.hopeless: Answer | None = None
+        self.asked_late: Told | None = None
+        self.asked_ties: Ties | None = None
 
     def run(self) -> None:
         """Does all of it."""
         self.pass_through()
         if not self.solved and self.best() < Score.KNOWN and self.may_read_all():
-            self.report.say("all", "nothing was found in the first part, and all images are small: goes on to the whole of them")
+            self.report.say("all", "nothing was found in the first part. All images are small, so the search continues over all of them")
             self.options = dataclasses.replace(self.options, first=ALL)
             self.known.clear()
             self.pass_through()
@@ -83,6 +94,13 @@ class Search:
             self.diagnose(lambda it: it.show(self.was_late))
             self.say_reshapes()
         self.say_rows()
+        self.say_amount()
+
+    def say_amount(self) -> None:
+        """Says how much was read of large images by now."""
+        read = meter.read_of_images()
+        if read and amounts.first_pass(self.images, self.options.first):
+            self.report.say("read", amounts.in_all(read, len(self.images)), bytes=read)
 
     def say_reshapes(self) -> None:
         """Says once more where ties change for good, where nothing has a sign."""
@@ -119,17 +137,81 @@ class Search:
         """Looks, tries what the images themselves give a reason for, and then surveys and tries all else, in as much of the images as is to be read;
         without landmarks all is read at once, where it may be."""
         self.look()
+        if self.are_zeros():
+            self.report.say("zeros", "the images hold nothing but zeros: there is nothing to search", zeros=True)
+            self.solved, self.tests = True, self.tests_of()
+            return
         self.look_for_fills()
-        self.tests = Tests(self.options, self.commands, self.report, self.room, self.images, self.memory)
+        self.tests = self.tests_of()
+        if self.answered(lambda answers: answers.early()):
+            return
         evident = Evident(self)
-        self.solved = evident.run()
-        if self.solved:
+        solved = evident.run()
+        # A search whose sets are encrypted is at its end without a rating, and says so.
+        if self.best() < Score.CHECKED and self.answered(lambda answers: answers.late(evident.told, self.tested)):
+            return
+        self.solved = solved
+        if solved:
             return
         self.report.bar.show("surveys the images")
         self.hunt = evident.hunt()
         self.say_evidence(self.hunt)
         if self.hunt.plan.groups or not self.may_read_all():
             self.try_all()
+
+    def tests_of(self) -> Tests:
+        """Return the tests of candidates over these images."""
+        return Tests(self.options, self.commands, self.report, self.room, self.images, self.memory)
+
+    def are_zeros(self) -> bool:
+        """Return whether the images hold nothing but zeros. Of an image that is longer than what is read at both its ends that is not known."""
+        read = [image.sectors * SECTOR <= 2 * self.options.first for image in self.images]
+        return bool(read) and all(read) and all(image.first is None and image.last is None for image in self.images)
+
+    def answered(self, ask: Callable[[Answers], Answer | None]) -> bool:
+        """The images are no array that can be searched, so the search ends with an answer."""
+        self.answer = self.asked_for_answer(ask)
+        self.solved = self.answer is not None
+        return self.solved
+
+    def asked_for_answer(self, ask: Callable[[Answers], Answer | None]) -> Answer | None:
+        """What the images are if they are no array; None if levels or members are given: then an array is searched for in any case."""
+        if self.options.levels != LEVELS or self.options.members:
+            return None
+        self.report.bar.show("looks whether the images are an array")
+        alone = Alone(self.commands, self.room, self.options.first)
+        try:
+            return ask(Answers(alone, self.ties, self.images, self.options.jobs))
+        except OSError as error:
+            raise OutsideError(f"an image cannot be read: {said(error)}") from error
+
+    @property
+    def ties(self) -> Ties:
+        """Who is asked how the images depend on one another; the rows that were read are kept."""
+        names = [image.name for image in self.images]
+        if self.asked_ties is None or [image.name for image in self.asked_ties.images.values()] != names:
+            self.asked_ties = Ties(self.commands, self.images, self.options.seconds)
+        return self.asked_ties
+
+    def is_hopeless(self, told: Told) -> bool:
+        """More disks are missing than any level bears, or the images are encrypted and parity tells nothing: nothing is loosened then."""
+        return self.late_answer(told) is not None
+
+    def is_closed(self, told: Told) -> bool:
+        """The images are encrypted and parity tells nothing: then no set is better than another."""
+        found = self.late_answer(told)
+        return found is not None and found.kind is Kind.ENCRYPTED
+
+    def late_answer(self, told: Told) -> Answer | None:
+        """What the images are by what parity tells of them, asked once of that."""
+        if self.asked_late != told:
+            self.asked_late, self.hopeless = told, self.asked_for_answer(lambda answers: answers.late(told, ()))
+        return self.hopeless
+
+    def say_answer(self) -> None:
+        """Says what the images are, if they are no array that can be searched."""
+        if self.answer:
+            self.report.say("answer", self.answer.lines(), kind=self.answer.kind.value, said=self.answer.text, commands=list(self.answer.commands))
 
     def may_read_all(self) -> bool:
         """Some image is longer than what was read of it, and none is so much longer that reading all would take very long."""
@@ -147,12 +229,24 @@ class Search:
         total = sum(min(image.sectors * SECTOR, self.options.first) for image in self.images)
         self.report.total = total
         part = "all" if total == sum(image.sectors * SECTOR for image in self.images) else "the first part"
-        self.report.say("reads", f"reads {part} of the images: {total // MIB} MiB", bytes=total)
+        amount = amounts.first_pass(self.images, self.options.first)
+        self.report.say("reads", f"reading {part} of the images: {total // MIB} MiB" + (amount.text() if amount else ""), bytes=total)
+        self.say_room()
+
+    def say_room(self) -> None:
+        """Say that volumes may need more room than there is, as far as the images tell."""
+        held = sum(seen.held(image) for image in self.images)
+        if self.room.free() < held and not self.said_room:
+            self.said_room = True
+            free = self.room.free()
+            self.report.say("room", f"{self.room.base} has {size_said(free)} for volumes, and the images hold {size_said(held)}. Of larger volumes "
+                            "only the beginning is checked, or nothing, and the table reports it (--room DIR names another folder)",
+                            folder=self.room.base, free=free, images=held)
 
     def look_for_fills(self) -> None:
         """The texts that stand in images in place of what could not be read, a line each that was not printed before; they count as unread."""
         self.report.bar.show("looks for texts in place of what could not be read")
-        found = fills.told(Ties(self.commands, self.images, self.options.seconds), self.images, self.options.first)
+        found = fills.told(self.ties, self.images, self.options.first)
         self.images = fills.counted_unread(self.images, found)
         for it in found:
             if it.line() not in self.said_fills:
@@ -164,10 +258,11 @@ class Search:
         self.hunts.append(hunt)
         for group in hunt.plan.groups:
             first, last = (group.marks[0], group.marks[-1]) if group.marks else (None, None)
-            where = f", from sector {first.sector} of image {first.image} to {last.sector} of image {last.image}" if first and last else ""
+            where = f": sector {first.sector} of image {first.image}" if first else ""
+            where += f" to {last.sector} of image {last.image}" if last and last != first else ""
             self.report.say("group", f"{group.name()}{where}", group=group.place, kind=group.kind, marks=len(group.marks))
         if not hunt.plan.groups:
-            self.report.say("group", "no landmarks: parity alone rules sets out")
+            self.report.say("group", "no landmarks: only parity rules out layouts")
         for hint in hunt.evidence.said:
             self.report.say("hint", hint.line(), what=hint.what.value, value=hint.value, source=hint.source.value, why=hint.why)
 
@@ -178,7 +273,7 @@ class Search:
             self.tests.put_off = list({it.word.text: it for it in reversed(self.tests.put_off) if it.word.text not in tested}.values())
             self.keep(self.looked_at(self.tests.put_off, self.tests.test_late))
         if self.hunt.passed_over:
-            self.commands.note(f"# passed over {counted(self.hunt.passed_over, 'trial')}: landmarks alone, or parity alone, allow no set")
+            self.commands.note(f"# skipped {counted(self.hunt.passed_over, 'step')}: landmarks by themselves, or parity by itself, allow no layout")
 
     def first_trials(self) -> bool:
         """What is plain, once more where it ran out of its time, and with parity that stays for several rows; then what the hints say, with up to
@@ -248,7 +343,7 @@ class Search:
         if not self.hunt.evidence.unread or not self.hunt.plan.groups:
             return False
         telling = [shape for shape in shapes if shape.parity]
-        first = cures.told(f"the first {FIRST_ROWS} rows alone", Family.FIRST_ROWS)
+        first = cures.told(f"only the first {FIRST_ROWS} rows", Family.FIRST_ROWS)
         ways: list[tuple[Cure, ...]] = [(), *((cure,) for cure in cures.group_cures(self.hunt.plan, True))]
         for chosen in ways:
             for shape in telling:
@@ -298,7 +393,7 @@ class Search:
                 return False
             if not last and not hunt.may_list(plan, shape):
                 if self.options.show:
-                    self.report.say("passed over", f"passed over: {trial.line()}", loosened=trial.loosened, shape=shape.line())
+                    self.report.say("passed over", f"skipped: {trial.line()}", loosened=trial.loosened, shape=shape.line())
                 return False
             listing = hunt.listing(shape, request, plan)
         except Refused as error:
@@ -317,20 +412,20 @@ class Search:
         if self.best() is Score.CHECKED and not self.said_on:
             self.said_on = True
             row = max(it.found.row for it in self.tested if it.score is Score.CHECKED)
-            self.report.say("goes on", f"  goes on: a checker alone is content, and no file longer than a row of chunks ({row // KIB} KiB) was found "
-                            "whole, which would say more. Ctrl-C ends the search, and prints what it found with what to type", row=row)
+            self.report.say("goes on", f"  continuing: only a checker supports the result, and no intact file longer than a stripe ({row // KIB} "
+                            "KiB) was found. Ctrl-C ends the search, and prints what it found, with the commands to type", row=row)
 
     def say_late(self, what: str, seconds: int) -> None:
         """Says that a question ran out of its time, which was so many seconds."""
         self.was_late = True
-        self.report.say("late", f"  {counted(seconds, 'second')} were up before it was known whether {what} a set: goes on as if so, and passes over "
-                        "no trial for it (--time gives more)", what=what, seconds=seconds)
+        self.report.say("late", f"  timed out after {seconds} s: it is not known whether {what} a layout. The search assumes so, and skips no step "
+                        "for it (--time allows more)", what=what, seconds=seconds)
 
     def say_trial(self, hunt: Hunt, trial: Trial, listing: Listing) -> Trial:
         """A trial with its number, after it is printed with what it listed."""
         self.number, self.was_late = self.number + 1, self.was_late or not listing.whole
         trial = dataclasses.replace(trial, number=self.number, cures=(*trial.cures, *hunt.asking.unread_cure(trial.shape, trial.request)))
-        self.report.say("trial", f"trial {self.number}: {trial.line()}: {listing.line()}", number=self.number, shape=trial.shape.line(),
+        self.report.say("trial", f"step {self.number}: {trial.line()}: {listing.line()}", number=self.number, shape=trial.shape.line(),
                         loosened=trial.loosened, listed=len(listing.sets), total=listing.total, note=listing.note, reason=self.why)
         self.shapes_tried.add(trial.shape.line())
         return trial
@@ -350,12 +445,17 @@ class Search:
             return False
         found = list(fresh.values())
         tested = self.looked_at(found, lambda: self.tests.test(found))
-        if trial.is_bare:
-            # What was put off without landmarks may be listed with them yet, and then it is known where its volume is to be looked at.
-            self.known -= {it.word.text for it in found if it.verdict is None}
+        self.known -= self.left_of(trial, found)
         telling = hunt.evidence.pairs is not None or not trial.is_bare
         whole = self.keep([it for it in tested if telling or it.found.findings or it.word.level in trial.shape.telling.split(",")])
         return self.keep(self.tests.without_damaged(tested)) or whole
+
+    def left_of(self, trial: Trial, found: Sequence[Candidate]) -> set[str]:
+        """Return the sets of a trial that were not looked at and may be listed again: those of too many. What was put off without landmarks may be
+        listed with them yet, and then it is known where its volume is to be looked at."""
+        same = {text for it in found if it.verdict for text in it.alike}
+        kept = set() if trial.is_bare else {it.word.text for it in self.tests.put_off}
+        return {it.word.text for it in found if it.verdict is None} - kept - same
 
     def looked_at(self, found: list[Candidate], test: Callable[[], list[Candidate]]) -> list[Candidate]:
         """What a test gives of these; where the run is ended meanwhile, what was looked at until then is kept."""
@@ -370,7 +470,9 @@ class Search:
         self.tested += tested
         for it in tested:
             self.tests.tell(it)
-        return any(it.found.score is Score.WHOLE for it in tested)
+        same = kin.same_images(self.images)
+        settling.settle(self.tests, self.tested, lambda one, other: kin.contradict(one, other, same))
+        return any(it.found.score is Score.WHOLE or it.found.is_intact for it in tested)
 
     def near_mirrors(self, hunt: Hunt, missing: int) -> bool:
         """RAID 10 with two copies side by side; it says whether the search is at its end."""
@@ -392,13 +494,15 @@ class Search:
         whole = self.take(hunt, trial, others, lambda it: (None, hunt.word(it.text)))
         return any([whole, *(self.grouped(hunt, grouped) for grouped in groupings(striped))])
 
-    def grouped(self, over: Hunt, grouped: Grouped) -> bool:
-        """The RAID 0 of one image of each group of a hunt, as a hunt of its own; it says whether the search is at its end."""
+    def grouped(self, over: Hunt, grouped: Grouped, counts: Sequence[int] = range(MOST_PAIRED + 1)) -> bool:
+        """The RAID 0 of one image of each group of a hunt, as a hunt of its own, with so many things loosened; it says whether the search is at its
+        end."""
         seen_by, start = over.evidence.images, over.evidence.start
         images = [seen_by[group[0]] for group in grouped.groups]
-        hunt = Hunt(self.options, self.commands, images, self.say_late, grouped.partners(seen_by), start)
+        hunt = Hunt(self.options, self.commands, images, self.say_late, grouped.partners(seen_by), start, shared=self.surveys)
         self.report.say("pairs", grouped.line(seen_by), pairs=[list(group) for group in grouped.groups])
         self.say_evidence(hunt)
         shapes = hunt.shapes.tiers().all
-        steps = [Step(shapes, count) for count in range(MOST_PAIRED + 1)]
-        return any(self.take_step(step, hunt) for step in steps) or bool(shapes) and self.attempt_bare(hunt, shapes[0])
+        steps = [Step(shapes, count) for count in counts]
+        bare = bool(shapes) and MOST_PAIRED in counts
+        return any(self.take_step(step, hunt) for step in steps) or bare and self.attempt_bare(hunt, shapes[0])

@@ -20,9 +20,9 @@ class Shape:
 
     def line(self) -> str:
         """What is said of it."""
-        said = [f"levels {self.levels}", f"{self.members} members"]
+        said = [f"RAID {self.levels.replace(',', ' or ')} of {self.members} disks"]
         said += [f"{self.missing} missing"] if self.missing else []
-        said += [f"{self.foreign} foreign"] if self.foreign else []
+        said += [f"{self.foreign} {'image' if self.foreign == 1 else 'images'} left out"] if self.foreign else []
         return ", ".join(said)
 
     @property

@@ -8,9 +8,10 @@ from typing import TYPE_CHECKING
 from ..calls import surveys
 from ..calls.plans import Bounds, Group, Plan
 from ..calls.program import Listing
-from ..calls.sets import read_word
+from ..calls.sets import LEVELS, read_word
 from ..errors import Refused
-from ..units import counted
+from ..evidence import far, sampling
+from ..units import SECTOR, counted
 from . import cures
 from .cures import Family
 from .hunt import Hunt
@@ -20,8 +21,9 @@ from .trials import Trial
 if TYPE_CHECKING:
     from .search import Search
 
-# So many of them tell something at least; so many groups are asked, those with the most; more sets with as many tell nothing.
-LEAST_MARKS, MOST_GROUPS, MOST_SETS = 12, 2, 64
+# So many of them tell something at least; so many groups are asked, those with the most; more sets with as many tell nothing, nor do those at which
+# less than one in so many of a group lie where they say, as by chance.
+LEAST_MARKS, MOST_GROUPS, MOST_SETS, FEW_FIT = 12, 2, 64, 10
 
 
 @dataclasses.dataclass(frozen=True)
@@ -36,9 +38,9 @@ class Marks:
     says: str
 
 
-PAIRS = Marks("extinode", "ext", "inode pair", "an ext4", "the descriptors of their groups say")
-INODES = Marks("xfs5", "xfs", "inode", "an XFS", "their numbers say")
-TREE_BLOCKS = Marks("btrfstree", "btrfs", "tree block", "a btrfs", "the tree of chunks says")
+PAIRS = Marks("extinode", "ext", "inode pair", "an ext4", "the block group descriptors state")
+INODES = Marks("xfs5", "xfs", "inode", "an XFS", "their numbers state")
+TREE_BLOCKS = Marks("btrfstree", "btrfs", "tree block", "a btrfs", "the chunk tree states")
 ALL = {it.kind: it for it in (PAIRS, INODES, TREE_BLOCKS)}
 
 
@@ -64,8 +66,8 @@ class Most:
     def line(self, following: int | None) -> str:
         """Why these sets are tried; at other sets so many landmarks lie so at most, where that is known."""
         marks = self.marks
-        said = f"{self.fits} of {counted(len(self.group.marks), marks.name)} of {marks.system} lie where {marks.says}"
-        return said if following is None else f"{said}; at the next set {following} do"
+        said = f"{self.fits} of {counted(len(self.group.marks), marks.name)} of {marks.system} lie at the places that {marks.says}"
+        return said if following is None else f"{said}; with the next layout, {following} do"
 
 
 def seen(hunt: Hunt) -> list[str]:
@@ -74,22 +76,36 @@ def seen(hunt: Hunt) -> list[str]:
     return [it.kind for it in ALL.values() if it.seen_by in groups]
 
 
-def groups_of(hunt: Hunt, shape: Shape, kinds: Sequence[str]) -> list[Group]:
-    """The groups of these kinds with enough landmarks, those with the most first."""
-    found = [group for group in asked_of(hunt, shape, kinds).groups if group.kind in kinds and len(group.marks) >= LEAST_MARKS]
+def groups_of(hunt: Hunt, shape: Shape, kinds: Sequence[str], end: int | None = None) -> list[Group]:
+    """The groups of these kinds with enough landmarks, those with the most first, up to an end of the images, if that is not the usual one."""
+    found = [group for group in asked_of(hunt, shape, kinds, end).groups if group.kind in kinds and len(group.marks) >= LEAST_MARKS]
     return sorted(found, key=lambda group: (-len(group.marks), group.place))[:MOST_GROUPS]
 
 
-def asked_of(hunt: Hunt, shape: Shape, kinds: Sequence[str]) -> Plan:
-    """The plan of a shape with nothing loosened, in which landmarks of these kinds are groups as well."""
-    return hunt.surveys.plan(hunt.asking.request(shape).having(kinds=",".join([surveys.KINDS, *kinds])))
+def asked_of(hunt: Hunt, shape: Shape, kinds: Sequence[str], end: int | None = None) -> Plan:
+    """The plan of a shape with nothing loosened, in which landmarks of these kinds are groups as well, up to an end of the images, if that is not the
+    usual one."""
+    request = hunt.asking.request(shape).having(kinds=",".join([surveys.KINDS, *kinds]))
+    return hunt.surveys.plan(request if end is None else request.having(end=end))
 
 
-def most_of(hunt: Hunt, shapes: Sequence[Shape], group: Group, kinds: Sequence[str]) -> list[Most]:
+def far_end(hunt: Hunt, shapes: Sequence[Shape]) -> int | None:
+    """The end of large images up to which tables of their file systems were surveyed, as far as these tell where they are; None if there are none."""
+    evidence = hunt.evidence
+    end = min(image.sectors for image in evidence.images)
+    if evidence.pairs or end <= evidence.end or not sampling.is_large(evidence.start, evidence.end):
+        return None
+    data = {shape.members - LEVELS[level].parity for shape in shapes for level in shape.levels.split(",") if level in LEVELS}
+    heads = tuple(far.Start(head.kind, place, head.sector) for place, image in enumerate(evidence.images) for head in image.heads)
+    asked = far.Asked(evidence.names, end, evidence.end, tuple(sorted(data)), heads)
+    return end if hunt.surveys.far(evidence.start, evidence.base.get("logical", str(SECTOR)), hunt.near_plan, asked) else None
+
+
+def most_of(hunt: Hunt, shapes: Sequence[Shape], group: Group, kinds: Sequence[str], end: int | None = None) -> list[Most]:
     """The shapes at whose sets the most landmarks of a group lie where they say: more than one where they are as many."""
     best: list[Most] = []
     for shape in shapes:
-        plan = asked_of(hunt, shape, kinds)
+        plan = asked_of(hunt, shape, kinds, end)
         alone = plan.without({it.place for it in plan.groups if it.place != group.place})
         fits = hunt.questions.most_fits(alone, group.place, best[0].fits - 1 if best else 0)
         if fits is not None:
@@ -99,6 +115,8 @@ def most_of(hunt: Hunt, shapes: Sequence[Shape], group: Group, kinds: Sequence[s
 
 def attempt(search: "Search", hunt: Hunt, most: Most) -> bool:
     """The trial of the sets at which the most of a group lie where they say; it says whether the search is at its end."""
+    if FEW_FIT * most.fits < len(most.group.marks):
+        return False
     listing = hunt.program.listing(most.bounded)
     if not listing.whole or len(listing.sets) > MOST_SETS:
         return False
@@ -114,7 +132,7 @@ def attempt(search: "Search", hunt: Hunt, most: Most) -> bool:
 def taken(search: "Search", hunt: Hunt, most: Most, listing: Listing) -> bool:
     """Tests these sets as others are, by the landmarks that are not asked for here too; it says whether the search is at its end."""
     others = [group.place for group in hunt.plan.groups]
-    alone = cures.told(f"the {most.marks.name}s of {most.marks.system} alone, as many as fit", Family.ALONE, others)
+    alone = cures.told(f"only the {most.marks.name}s of {most.marks.system}, as many as match", Family.ALONE, others)
     trial = search.say_trial(hunt, Trial(most.shape, (alone,), hunt.asking.request(most.shape)), listing)
     return search.take(hunt, trial, listing.sets, lambda it: (read_word(it.text), hunt.word(it.text)))
 
@@ -122,9 +140,10 @@ def taken(search: "Search", hunt: Hunt, most: Most, listing: Listing) -> bool:
 def attempt_all(search: "Search", hunt: Hunt, shapes: Sequence[Shape], kinds: Sequence[str]) -> bool:
     """The trials by each group of these kinds that has enough landmarks; it says whether the search is at its end."""
     try:
-        groups = groups_of(hunt, shapes[0], kinds)
-        search.report.bar.show("asks where landmarks by the thousand fit")
-        return any(attempt(search, hunt, most) for group in groups for most in most_of(hunt, shapes, group, kinds))
+        end = far_end(hunt, shapes)
+        groups = groups_of(hunt, shapes[0], kinds, end)
+        search.report.bar.show("counts matching inodes and tree blocks")
+        return any(attempt(search, hunt, most) for group in groups for most in most_of(hunt, shapes, group, kinds, end))
     except Refused as error:
         search.say_refused(error)
         return False

@@ -51,4 +51,4 @@ class Trial:
     def line(self) -> str:
         """What is said of it."""
         copies = f", {self.copied.line()}" if self.copied else ""
-        return f"{self.shape.line()}{copies}: {names_of(self.cures) or 'nothing loosened'}"
+        return f"{self.shape.line()}{copies}; relaxed: {names_of(self.cures) or 'nothing'}"

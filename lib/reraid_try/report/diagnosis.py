@@ -20,8 +20,8 @@ FEW, SHOWN = 24, 3
 MOST_SHAPES, MOST_GROUPS, TIMES = 6, 8, 4
 # The next set may have fewer unsound rows than the last one by this part.
 NEXT_FEWER = 64
-ON_THE_WAY = """  so far no set is sound. Of the sets that landmarks allow these have the fewest unsound rows, as the true one may have where images \
-are damaged. It goes on; reraid-mount SET DIR IMAGE.. shows the volume of one of them, and - in a slot leaves its image out"""
+ON_THE_WAY = """  so far no layout is consistent. Of the layouts that landmarks allow, these have the fewest inconsistent rows. If images are \
+damaged, the right one may be among them. The search continues. To look at one: reraid-mount LAYOUT DIR IMAGE.. (- in a slot leaves its image out)"""
 
 
 class Diagnosis:
@@ -122,21 +122,21 @@ class Diagnosis:
         self.begin()
         marks = self.by_marks()
         if not rows and not marks:
-            self.report.say("diagnosis", f"diagnosis: {self.none_near(was_late)}")
+            self.report.say("diagnosis", f"nearest layouts: {self.none_near(was_late)}")
         if rows:
-            self.report.say("diagnosis", "diagnosis: of the sets that landmarks allow these have the fewest unsound rows")
+            self.report.say("diagnosis", "nearest layouts: of those that landmarks allow, these have the fewest inconsistent rows")
             self.lines(rows[:SHOWN])
         if marks:
-            self.report.say("diagnosis", "diagnosis: of the sets that parity allows these have the most groups and marks that fit")
+            self.report.say("diagnosis", "nearest layouts: of those that parity allows, these match the most landmarks")
             self.lines(marks[:SHOWN])
 
     def none_near(self, was_late: bool) -> str:
         """What is said where no set is near."""
         if not self.shapes():
-            return "parity rules no set out at the levels and with the lost disks that were searched, so no set can be called near by it"
+            return "none, since parity rules out no layout at the levels and numbers of missing disks that were searched"
         if was_late:
-            return "no set is known to be near, as not all was looked at (--time gives more)"
-        return "no set is near: landmarks and parity each allow none"
+            return "none is known, since some steps timed out (--time allows more)"
+        return "none, since neither landmarks nor parity allow any"
 
     def lines(self, found: Sequence[Near]) -> None:
         """A line for each of these sets, with the numbers that the images have among all."""

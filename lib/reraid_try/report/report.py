@@ -1,11 +1,15 @@
 """What is printed: lines for people or objects for programs on standard output, and how far it is on standard error."""
 
+import contextlib
+import errno
 import json
+import os
 import shutil
 import sys
+import textwrap
 import threading
 import time
-from typing import Any
+from typing import Any, TextIO
 
 from ..casefile.record import Record
 from ..errors import OutsideError, said
@@ -18,6 +22,8 @@ MINUTE, PARTS = 60, 3
 LONG = 5
 # The width of the bar, and what takes a line of a terminal away.
 BAR, CLEAR = 20, "\r\033[K"
+# Lines for people are at most so wide, but for those that are copied by hand: they begin so.
+WIDTH, TYPED = 80, ("    ", "  $ ")
 # The command whose whole reading is known before it ends.
 SURVEY = "reraid survey"
 
@@ -30,15 +36,26 @@ class Report:
         self.bar = Bar(every)
         self.record = Record()
         self.doing, self.total = "", 0
+        self.is_read, self.on_terminal = True, sys.stdout.isatty()
 
     def put(self, line: str) -> None:
-        """A line on standard output."""
+        """A line on standard output. Once the terminal is closed it goes nowhere if it cannot be written."""
         try:
-            print(line, flush=True)
-        except BrokenPipeError:
-            raise
+            print(line if self.as_json else wrapped(line), flush=True)
         except OSError as error:
-            raise OutsideError(f"standard output cannot be written: {said(error)}") from error
+            if self.on_terminal and error.errno == errno.EIO:
+                self.hang_up()
+            if not self.is_read:
+                to_nowhere(sys.stdout)
+            elif isinstance(error, BrokenPipeError):
+                raise
+            else:
+                raise OutsideError(f"standard output cannot be written: {said(error)}") from error
+
+    def hang_up(self) -> None:
+        """Go on although the terminal is closed: what cannot be printed from now on is lost, and the record has it all the same."""
+        self.is_read = False
+        self.bar.hang_up()
 
     def say(self, event: str, text: str, **fields: Any) -> None:
         """One line: a text for people, or an object with these fields for programs."""
@@ -78,6 +95,10 @@ class Bar:
         self.doing, self.since, self.said = "", self.began, self.began
         self.ended = threading.Event()
 
+    def hang_up(self) -> None:
+        """Show nothing any more: the terminal is closed."""
+        self.there = self.shown = False
+
     def watch(self) -> None:
         """From now on until the end it says each minute what is done, where standard error is no terminal."""
         if not self.there:
@@ -112,9 +133,17 @@ class Bar:
                 return
             full = BAR * done // total if total else 0
             part = f" [{'#' * full}{' ' * (BAR - full)}] {done}/{total}{left}" if total else ""
-            sys.stderr.write(CLEAR + f"{self.clock()} {text}{part}"[:shutil.get_terminal_size().columns - 1])
-            sys.stderr.flush()
+            self.write(CLEAR + f"{self.clock()} {text}{part}"[:shutil.get_terminal_size().columns - 1])
             self.shown = True
+
+    def write(self, text: str) -> None:
+        """Write to the terminal; a terminal that is closed shows nothing any more."""
+        try:
+            sys.stderr.write(text)
+            sys.stderr.flush()
+        except OSError:
+            self.hang_up()
+            to_nowhere(sys.stderr)
 
     def line(self, text: str) -> None:
         """A line of its own."""
@@ -133,16 +162,34 @@ class Bar:
         """Says what is done, where nothing else was said for a minute."""
         with self.lock:
             if self.doing and time.monotonic() >= self.said + self.every:
-                self.line(f"{self.doing.rstrip(': ')}: goes on")
+                self.line(f"{self.doing.rstrip(': ')}: still running")
 
     def clear(self) -> None:
         """Takes the line away. What follows is new, and takes no long time yet."""
         self.said = time.monotonic()
         self.until = self.said + self.seldom
         if self.shown:
-            sys.stderr.write(CLEAR)
-            sys.stderr.flush()
+            self.write(CLEAR)
             self.shown = False
+
+
+def wrapped(text: str) -> str:
+    """Break long lines of a text at spaces, except those that are copied by hand."""
+    return "\n".join(line if len(line) <= WIDTH or line.startswith(TYPED) else broken(line) for line in text.split("\n"))
+
+
+def broken(line: str) -> str:
+    """Break a line at spaces; what follows is indented by two more columns."""
+    indent = " " * (len(line) - len(line.lstrip()) + 2)
+    return textwrap.fill(line, WIDTH, subsequent_indent=indent, break_long_words=False, break_on_hyphens=False, drop_whitespace=True)
+
+
+def to_nowhere(stream: TextIO) -> None:
+    """Let a stream that can no longer be written go nowhere, so that nothing fails at the end of the program either."""
+    with contextlib.suppress(OSError, ValueError):
+        nowhere = os.open(os.devnull, os.O_WRONLY)
+        os.dup2(nowhere, stream.fileno())
+        os.close(nowhere)
 
 
 def duration(seconds: float) -> str:

@@ -1,4 +1,4 @@
-"""The table of the candidates."""
+"""The list of the candidates."""
 
 from collections.abc import Sequence
 from typing import Any
@@ -7,26 +7,29 @@ from ..checks import kin
 from ..checks.candidates import Candidate
 from ..checks.verdicts import Score
 from ..evidence.images import Image
+from ..units import counted
 from . import words
 from .report import Report
 
-HEAD = ("", "class", "set", "loosened", "fits", "volume")
-LAST = """reraid-try does not choose. These sets passed, by their sign and by how many marks fit. ++ stands where long files are whole, or the
-sums of all data are right, and no checker found fault; + where a checker alone is content, or one sign is taken (it may be wrong: read files
-by name)."""
+LAST = """\
+reraid-try does not choose between candidates. The order is by rating, and then by the number of matching landmarks.
+++: long files are intact or all data checksums match, and no checker reports errors.
++: only a checker reports no errors, or ++ was lowered for a reason above. It may be wrong, so open files."""
 NONE = "no candidates"
 MANY = 24
-# Between two columns.
-GAP = "  "
+# Before what belongs to a candidate.
+INDENT = " " * 8
 Numbered = tuple[int, Candidate]
 
 
-def row(number: int, it: Candidate) -> tuple[str, ...]:
-    """The columns of a candidate."""
-    fits = ([f"{it.unsound} unsound"] if it.unsound else []) + [group.short() for group in it.groups]
-    lacks = "no sign" if it.score < Score.CHECKED else "one sign less"
+def lines(number: int, it: Candidate) -> list[str]:
+    """Return the lines of a candidate: its layouts, its volume, and what the tests give."""
+    lacks = "no rating" if it.score < Score.CHECKED else "rating lowered"
     volume = "; ".join(filter(None, [it.found.text(), *(f"{lacks}: {doubt}" for doubt in it.doubts), kin.text(it)]))
-    return it.score.sign, str(number), it.word.text, " and ".join(it.trial.loosened) or "nothing", " ".join(fits) or "-", volume
+    matches = [f"landmarks that match: {' '.join(group.short() for group in it.groups)}"] if it.groups else []
+    bad = [counted(it.unsound, "inconsistent row")] if it.unsound else []
+    tests = "; ".join([f"relaxed: {' and '.join(it.trial.loosened) or 'nothing'}", *matches, *bad])
+    return [f"{it.score.sign:4}{number:<4}{it.word.text}", *(INDENT + told for told in (*it.alike, volume, tests))]
 
 
 def fields(number: int, it: Candidate) -> dict[str, Any]:
@@ -45,10 +48,10 @@ def shown(as_json: bool, order: Sequence[Candidate]) -> tuple[list[Numbered], li
     if as_json:
         return told, []
     known = [(number, it) for number, it in told if it.found.findings]
-    said = [f"{len(told) - len(known)} more: nothing is known in the volume"] if len(known) < len(told) else []
+    said = [f"{len(told) - len(known)} more: nothing recognized in the volume"] if len(known) < len(told) else []
     if len(known) > MANY:
         kept = [pair for pair in known if pair[1].score] or sorted(sorted(known, key=soundness)[:MANY], key=lambda pair: pair[0])
-        said = [f"{len(known) - len(kept)} more: a checker found fault (--json has them all)"] * (len(kept) < len(known)) + said
+        said = [f"{len(known) - len(kept)} more: a checker reports errors (--json lists them all)"] * (len(kept) < len(known)) + said
         known = kept
     return known, said
 
@@ -63,14 +66,10 @@ def show(report: Report, tested: Sequence[Candidate], images: Sequence[Image]) -
     """Prints the candidates, one of each class, that none is chosen, and what the best are in words."""
     order = kin.in_order(tested, images)
     told, others = shown(report.as_json, order)
-    rows = [HEAD, *(row(number, it) for number, it in told)]
-    widths = [max(len(line[k]) for line in rows) for k in range(len(HEAD) - 1)]
-    lines = [GAP.join([*(part.ljust(width) for part, width in zip(line, widths)), line[-1]]) for line in rows]
     if told and not report.as_json:
-        report.say("head", lines[0])
-    for (number, it), line in zip(told, lines[1:]):
-        text = line + "".join("\n" + " " * (sum(widths[:2]) + 2 * len(GAP)) + other for other in it.alike)
-        report.say("candidate", text, **fields(number, it))
+        report.say("head", "Candidates: rating, number, layout")
+    for number, it in told:
+        report.say("candidate", "\n".join(lines(number, it)), **fields(number, it))
     for said in others:
         report.say("rest", said)
     report.say("end", LAST if order else NONE, candidates=len(order))

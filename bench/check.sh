@@ -1,17 +1,21 @@
 #!/bin/bash
-# Runs what needs neither a proof nor much time, and ends at the first failure: that VERSION is the number everywhere, that scripts can be read,
-# the types and the tests of the Python modules, the answers worked out by hand (beside the reference, and beside crates that are built without
-# being proved), that the definitions and edits which pages name are there, that the pictures of LAYOUTS are those of disks.py, and the
-# commands of README as they are printed. What is not installed is left out, and a line says so. Of each step it says how long it took, and how long a
-# processor worked at it, which is less where others are at work.
-# Usage: bench/check.sh [CRATE..], crates of tests; some quick ones if none is named
+# Runs the tests that need no proof, in about five minutes, and ends at the first failure:
+# - that VERSION is the number everywhere, that FORMATS has the texts of the programs, and that all scripts can be parsed
+# - the unit tests of the Python modules, their types and their layout
+# - the answers worked out by hand, with the reference in Python, and with crates that are built without a proof
+# - that the definitions and edits named by pages exist, and that the pictures of LAYOUTS agree with disks.py
+# - that pages and messages keep to the limits of words.py, and that links lead to headings that exist
+# - the commands of README as they are printed
+# It skips what is not installed, and prints what it skips. After each step it prints the seconds that it took, and the seconds of processor time,
+# which are fewer if other programs run.
+# Usage: bench/check.sh [CRATE..], crates of tests; four quick ones if none is named
 set -eu
 cd "$(dirname "$0")/.."
 crates=("$@")
 [ $# -gt 0 ] || crates=(text_rows mark_rows image_rows layout_rows)
 began=$SECONDS
 
-# worked: sets `spent` to the seconds that processors worked until now at what this script has run
+# worked: sets `spent` to the processor time of this script and its steps so far, in seconds
 worked() {
     local name whole
     spent=0
@@ -22,7 +26,7 @@ worked() {
     done
 }
 
-# step NAME COMMAND..: runs the command, and says how long it took
+# step NAME COMMAND..: runs the command, and prints how long it took
 step() {
     local name=$1 from=$SECONDS before
     shift
@@ -30,12 +34,12 @@ step() {
     before=$spent
     "$@" || { echo "FAILED $name"; exit 1; }
     worked
-    echo "ok $name, $((SECONDS - from)) s, of a processor $((spent - before)) s"
+    echo "ok $name: $((SECONDS - from)) s, processor time $((spent - before)) s"
 }
 
-# there COMMAND WHAT: it is installed; else a line says what is left out
+# there COMMAND WHAT: succeeds if the command is installed; otherwise prints what is skipped
 there() {
-    command -v "$1" >/dev/null || { echo "left out: $2 (there is no $1)"; return 1; }
+    PATH=$PATH:/usr/sbin command -v "$1" >/dev/null || { echo "skipped: $2 ($1 is not installed)"; return 1; }
 }
 
 scripts() {
@@ -50,11 +54,16 @@ scripts() {
 }
 
 types() (
-    cd lib && mypy && { ! there flake8 "the layout of the modules" || flake8; }
+    cd lib && mypy && mypy --strict --cache-dir /dev/null ../bench/pages/{prose,private_words,words,links,test_words,test_links}.py &&
+        { ! there flake8 "the layout of the modules" || flake8; }
 )
 
 units() (
     cd lib && python3 -B -m unittest discover -s tests -t . -q
+)
+
+pages_units() (
+    cd bench/pages && python3 -B -m unittest -q test_words test_links
 )
 
 rows() (
@@ -64,21 +73,25 @@ rows() (
 
 log=$(mktemp)
 trap 'rm -f "$log"' EXIT
-step "the number of the version" bench/pages/versions.py
-step "all scripts can be read" scripts
-step "the unit tests of reraid-try" units
+step "the version number" bench/pages/versions.py
+step "the texts of --help and --version" bench/pages/texts.py
+step "all scripts can be parsed" scripts
+step "the unit tests of the Python modules" units
 ! there mypy "types" || step "types" types
-step "answers worked out by hand, of the reference" hostile/differential/rows.py
-step "DEFINITIONS" bench/pages/definitions.py --compare
+step "answers worked out by hand, with the reference" hostile/differential/rows.py
+step "the definitions named by pages" bench/pages/definitions.py --compare
 step "the edits that must fail" bench/pages/edits.py --compare
 step "the pictures of LAYOUTS" bench/pages/pictures.py
+step "the tests of words.py and links.py" pages_units
+step "plain words" bench/pages/words.py --compare
+step "links between pages" bench/pages/links.py
 if there rt "tests of crates"; then
     for name in "${crates[@]}"; do step "tests of $name" rows "$name"; done
 fi
-if [ -x crates/reraid/out/reraid ]; then
+if [ ! -x crates/reraid/out/reraid ]; then
+    echo "skipped: README as printed (crates/reraid/out/reraid is not built; run make build)"
+elif there mke2fs "README as printed"; then
     step "README as printed" bench/pages/as_printed.py README.md
-else
-    echo "left out: README as printed (there is no crates/reraid/out/reraid: see make build)"
 fi
 worked
-echo "all that was run passed, in $((SECONDS - began)) s, of a processor $spent s"
+echo "all steps passed: $((SECONDS - began)) s, processor time $spent s"

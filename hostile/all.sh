@@ -41,6 +41,7 @@ run sockets "$here/sockets.sh" "$program" "$server"
 run progress "$here/progress.sh" "$program" "$server"
 run copies "$here/copies.sh" "$program" "$server"
 run containers "$here/containers.py"
+run newcomer "$here/newcomer.sh" "$program" "$server"
 run casefile "$here/casefile.py"
 run package "$here/package.py" --all
 run chroot "$here/chroot.sh"

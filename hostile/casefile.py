@@ -145,11 +145,11 @@ def searched(checks, folder):
     """The page of a search over these, after it is looked at as a text."""
     env = os.environ | {"PATH": os.pathsep.join([str(TOP / "crates/reraid/out"), str(TOP / "bin"), os.environ["PATH"], "/usr/sbin", "/sbin"])}
     names = ["a.img", "b.img", "c.img", "d.img", "f.img", "e.qcow2"]
-    words = ["reraid-try", "--json", "--report", "case.html", "--hash", *names]
+    words = ["reraid-try", "--json", "--report", "case.html", "--hash", "--case", "7/2026", "--examiner", "A. B. <C>", *names]
     done = subprocess.run(words, cwd=folder, env=env, capture_output=True, text=True, check=False)
     events = [json.loads(line) for line in done.stdout.splitlines()]
     checks.that(done.returncode in (0, 1) and "Traceback" not in done.stderr, f"reraid-try ends by itself: {done.returncode} {done.stderr[-600:]}")
-    for kind in ("run", "image", "container", "strip", "hash", "trial", "not tried", "end", "finished", "page"):
+    for kind in ("run", "files", "image", "container", "strip", "hash", "trial", "not tried", "end", "finished", "page"):
         checks.that(any(it["event"] == kind for it in events), f"--json has the event {kind}")
     page = folder / "case.html"
     if not page.exists():
@@ -161,7 +161,9 @@ def searched(checks, folder):
     checks.that("script" not in elements.tags and not elements.outside and "url(" not in text and "@import" not in text, "it fetches nothing")
     for name in names[:5]:
         checks.that(hashlib.sha256((folder / name).read_bytes()).hexdigest() in text, f"the digest of {name}")
-    for wanted in (*names, "in a container: qcow2", "unread", "reraid-try --json --report case.html", "What was not tried", "Made with", os.uname().release):
+    checks.that(hashlib.sha256((folder / "a.map").read_bytes()).hexdigest() in text, "the digest of a.map")
+    for wanted in (*names, "in a container: qcow2", "unread", "reraid-try --json --report case.html", "What was not tried", "Made with", os.uname().release,
+                   "<dt>case</dt><dd>7/2026</dd>", "<dt>examiner</dt><dd>A. B. &lt;C&gt;</dd>", "bytes, changed last 20"):
         checks.that(wanted in text, f"it has: {wanted}")
     again = subprocess.run(words, cwd=folder, env=env, capture_output=True, text=True, check=False)
     checks.that(again.returncode == 2 and "is not written over" in again.stderr, "a page that is there is not written over")

@@ -48,7 +48,7 @@ for name in reraid reraid-nbd reraid-mount reraid-ranges reraid-try; do
     as "manual page of $name" test -s "/usr/share/man/man1/$name.1.gz"
     as "completion of $name" bash -c "source /usr/share/bash-completion/completions/$name && complete -p $name"
 done
-for name in README.md CHANGELOG.md CONTRIBUTING.md docs/USING.md docs/IMAGES.md docs/FORMATS.md docs/REAL-DISKS.md examples/disks.py; do
+for name in README.md CHANGELOG.md CONTRIBUTING.md docs/USING.md docs/RECIPES.md docs/SEARCH.md docs/IMAGES.md docs/COMMANDS.md docs/PLAN.md docs/LANDMARKS.md docs/STATUSES.md docs/REAL-DISKS.md examples/disks.py; do
     as "page $name" test -s "/usr/share/doc/reraid/$name"
 done
 for name in e2fsck xfs_repair btrfs ntfsfix pvck nbdfuse fusermount3 parallel; do
@@ -57,8 +57,8 @@ done
 as "no package is broken" apt-get check
 as "reraid without words" sh -c "! reraid 2>&1 | grep -vq 'word 1 is not understood'"
 # A page as it is printed, by the programs that are installed; its folder of the programs is not there.
-as "the first listing of README" sh -c 'cd /tmp && sed "/^    \$ export PATH=/s,=.*,=/usr/share/doc/reraid/examples:\$PATH," README.md |
-    sed "/^## The commands/,\$d" > page.md && mkdir -p bench/pages && mv as_printed.py bench/pages && python3 bench/pages/as_printed.py page.md'
+as "the first listing of README" sh -c 'cd /tmp && sed "/^    \$ export PATH=/s,=.*,=/usr/share/doc/reraid/examples:\$PATH," README.md > page.md &&
+    mkdir -p bench/pages && mv as_printed.py bench/pages && python3 bench/pages/as_printed.py page.md'
 as "apt remove" apt-get purge -y reraid
 as "nothing is left" sh -c '! find / -xdev -path /tmp -prune -o -name "*reraid*" -print | grep .'
 echo "$(basename "$package"): $cases cases, $failed not as stated"

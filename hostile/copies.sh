@@ -1,7 +1,7 @@
 #!/bin/bash
 # Tries copies of a volume that are ended midway and gone on with: ddrescue over a mount, ended by a signal, killed, and when the mount itself was
 # lost under it; each is gone on with by its map, does not read again what the map calls read, and has the volume at the end. Then targets that are
-# full, as USING has it: what `write` put is a prefix of the volume, and the rest comes from a mount or out of `salvage`; a copy by ddrescue is moved
+# full, as RECIPES has it: what `write` put is a prefix of the volume, and the rest comes from a mount or out of `salvage`; a copy by ddrescue is moved
 # to where there is room. Its last line says how many cases were as stated; status 1 where one was not.
 # As root, with FUSE and the Debian packages libnbd-bin, gddrescue and strace.
 # Usage: hostile/copies.sh PROGRAM SERVER

@@ -252,15 +252,15 @@ refused() {
     mkdir "a folder"
     "$bench/making/disks.py" offsets=0 5 8 made "a folder/one image" --d1 d2
     local set=5:ls:none:8:0:0,1,2 images=("a folder/one image" --d1 d2)
-    as "reraid-mount without images" ends 1 "usage: " reraid-mount "$set" shown
+    as "reraid-mount without images" ends 1 "give the images after shown" reraid-mount "$set" shown
     as "reraid-mount of a folder that is not empty" ends 1 "tree is not empty" reraid-mount "$set" tree "${images[@]}"
     as "reraid-mount of a file" ends 1 "" reraid-mount "$set" made "${images[@]}"
     as "reraid-mount of no set" ends 1 "word 1 is not understood" reraid-mount 5:ls shown "${images[@]}"
     as "reraid-mount of a set with a fault" ends 7 "set rule 6 value 1" reraid-mount 5:ls:none:8:0:0,1,1 shown "${images[@]}"
     as "reraid-mount of an image that is not there" ends 10 "image read fault" reraid-mount "$set" shown --d1 d2 nothing
-    as "reraid-mount without nbdfuse" ends 1 "there is no nbdfuse" env PATH="$folder/bin:$folder/few" "$(command -v reraid-mount)" "$set" shown "${images[@]}"
+    as "reraid-mount without nbdfuse" ends 1 "nbdfuse is not installed" env PATH="$folder/bin:$folder/few" "$(command -v reraid-mount)" "$set" shown "${images[@]}"
     as "nothing is shown" test -z "$(ls -A shown)"
-    as "reraid-mount of a folder that it makes" ends 0 "to end it: umount -new: folder/" reraid-mount "set=$set" "-new: folder/" "${images[@]}"
+    as "reraid-mount of a folder that it makes" ends 0 "to unmount it: umount -new: folder/" reraid-mount "set=$set" "-new: folder/" "${images[@]}"
     reraid write "set=$set" -- "${images[@]}" >volume
     as "its file" cmp "./-new: folder/volume" volume
     as "its end" umount "./-new: folder"

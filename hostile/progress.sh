@@ -109,7 +109,7 @@ as "pv -d of a survey says how far each image is" sh -c "tr '\r' '\n' <shown | g
 
 slower 4
 as "reraid-mount" reraid-mount $set look "${images[@]/#/slow/}"
-as "it says how a copy shows what is left, and is gone on with" grep -qx "to copy it, to see what is left, and to go on where it was ended: ddrescue look/volume FILE FILE.map" before
+as "it says how to copy it" grep -qx "to copy it, or to continue a copy: ddrescue look/volume FILE FILE.map" before
 pv -f -i 0.5 -w 120 look/volume 2>shown >copy
 as "pv over a copy from a mount knows the length by itself" parts shown
 as "what was copied" cmp copy volume
@@ -119,7 +119,7 @@ mkdir late
 printf '#!/bin/sh\nsleep 11\nexec %q "$@"\n' "$(command -v nbdfuse)" >late/nbdfuse
 chmod 755 late/nbdfuse
 as "reraid-mount of what comes late" env PATH="$folder/late:$PATH" reraid-mount $set look "${images[@]}"
-as "it says that it waits" grep -qx 'reraid-mount: waits for nbdfuse, 10 s' before
+as "it says that it waits" grep -qx 'reraid-mount: waiting for nbdfuse, 10 s' before
 as "and shows the volume" cmp look/volume volume
 unmount look
 
@@ -130,8 +130,8 @@ as "it finds the set" grep -qF "5:ls:none:128:2048:0,1,2,3" shown
 slower 4
 reraid-try --every 2 --levels 5 --members 4 --room room "${images[@]/#/slow/}" >out 2>told
 as "reraid-try with both outputs in files" test $? = 0
-as "it says what is at work" grep -qE '^[0-9]+:[0-9]{2} .+: (goes on|[0-9]+ of [0-9]+.*)$' told
-as "and nothing else, nor a bar" sh -c "! grep -vE '^[0-9]+:[0-9]{2} .+: (goes on|[0-9]+ of [0-9]+.*)\$' told"
+as "it says what is at work" grep -qE '^[0-9]+:[0-9]{2} .+: (still running|[0-9]+ of [0-9]+.*)$' told
+as "and nothing else, nor a bar" sh -c "! grep -vE '^[0-9]+:[0-9]{2} .+: (still running|[0-9]+ of [0-9]+.*)\$' told"
 as "it finds the same set" grep -qF "5:ls:none:128:2048:0,1,2,3" out
 
 echo "$cases cases, $failed not as stated"

@@ -108,7 +108,7 @@ done
 as "four clients of one socket" together
 as "a socket that is for another process" test "$(LISTEN_FDS=1 LISTEN_PID=1 nbdfuse --version >/dev/null; LISTEN_FDS=1 LISTEN_PID=1 reraid-nbd "${words[@]}" </dev/null | head -c 8)" = NBDMAGIC
 as "a refused word" ends 1 "word 1 is not understood" nbdcopy -- [ reraid-nbd set=5:left-symmetric:none:128:2048:0,-,1,2 -- "${words[@]:2}" ] copy
-as "what was expected" grep -qF "reraid-nbd: left-symmetric (is ls meant?)" said
+as "what was expected" grep -qF "reraid-nbd: left-symmetric (did you mean ls?)" said
 as "an image that is not there" ends 1 "image read fault" nbdcopy -- [ reraid-nbd "set=$set" -- nothing b.img c.img ] copy
 as "a set with a fault" ends 7 "set rule 6 value 1" reraid-nbd set=5:ls:none:128:2048:0,1,1 -- "${words[@]:2}"
 as "--version" ends 0 "reraid-nbd $(cat "$here/../VERSION")" reraid-nbd --version

@@ -1,6 +1,6 @@
 #!/bin/bash
 # Runs the program in hostile surroundings, and compares status, line on standard error and bytes on standard output with what
-# docs/FORMATS.md says. Each run has twenty seconds; a signal is never right, but where the kernel lets the stack not grow for want of memory, as
+# docs/STATUSES.md says. Each run has twenty seconds; a signal is never right, but where the kernel lets the stack not grow for want of memory, as
 # the address of the fault shows, and nothing was put. At the end the images hold what they held, and a trace
 # of the system calls shows that they were opened for reading alone.
 #

@@ -44,7 +44,7 @@ cp "$top/HANDLES" "$copy"
 (cd "$copy" && rt ci)
 for program in $programs; do
     mkdir -p "$top/crates/$program/out"
-    cp "$copy/crates/$program/out/$program" "$top/crates/$program/out"
+    "$top/bench/making/put.sh" 755 "$copy/crates/$program/out/$program" "$top/crates/$program/out"
     # With what it was proved and built, for those who have to say so.
     rt version > "$top/crates/$program/out/KIT"
 done

@@ -1,12 +1,12 @@
 #!/bin/sh
-# Makes a Debian package of all that `make put` puts in place, by dpkg-deb alone, and prints its name. Two packages of one commit and one build
-# are the same in every byte. The programs go in as they were built, with their symbols.
-# Usage: bench/making/deb.sh [FOLDER], where the package is put: out, if it is left out
+# Makes a Debian package of all that `make put` installs, with dpkg-deb, and prints its name. Two packages of one commit and one build are equal in
+# every byte. The programs keep their symbols.
+# Usage: bench/making/deb.sh [FOLDER], the folder for the package: out by default
 set -eu
 umask 022
 top=$(cd "$(dirname "$0")/../.." && pwd)
 for name in reraid reraid_nbd; do
-    [ -x "$top/crates/$name/out/$name" ] || { echo "deb.sh: there is no $top/crates/$name/out/$name: see make build" >&2; exit 1; }
+    [ -x "$top/crates/$name/out/$name" ] || { echo "deb.sh: $top/crates/$name/out/$name is not built: run make build" >&2; exit 1; }
 done
 mkdir -p "${1:-$top/out}"
 folder=$(cd "${1:-$top/out}" && pwd)
@@ -14,7 +14,7 @@ tree=$(mktemp -d)
 trap 'rm -rf "$tree"' EXIT
 chmod 755 "$tree"
 
-# The version is that of VERSION, and behind it how many commits there are where there is a history.
+# The version is that of VERSION, followed by the number of commits if there is a git history.
 version=$(cat "$top/VERSION")
 if SOURCE_DATE_EPOCH=$(git -C "$top" log -1 --format=%ct 2>/dev/null); then
     version=$version+$(git -C "$top" rev-list --count HEAD)
@@ -35,7 +35,7 @@ printf 'reraid (%s) unstable; urgency=low\n\n  * CHANGELOG.md says what changed.
     "Gulchtray maintainers <maintainers@users.noreply.gulchtray.example>" "$(date -R -u -d "@$SOURCE_DATE_EPOCH")" |
     gzip -9n >"$pages/changelog.Debian.gz"
 
-# The C library that the program asks for, by the versions of its symbols.
+# The C library that the program needs, by the versions of its symbols.
 library=$(cat "$tree"/usr/bin/reraid "$tree"/usr/libexec/reraid/reraid-nbd | grep -ao 'GLIBC_[0-9][0-9.]*' | sort -uV | tail -n 1)
 control=$tree/DEBIAN
 install -d "$control"
@@ -49,18 +49,18 @@ Maintainer: Gulchtray maintainers <maintainers@users.noreply.gulchtray.example>
 Installed-Size: $size
 Depends: libc6 (>= ${library#GLIBC_}), python3 (>= 3.10)
 Recommends: btrfs-progs, e2fsprogs, fuse3, libnbd-bin, lvm2, ntfs-3g, parallel, util-linux, xfsprogs
-Suggests: bash-completion, ewf-tools, gdisk, gddrescue, jq, nbdkit, pv, qemu-utils
+Suggests: bash-completion, dosfstools, ewf-tools, exfatprogs, gdisk, gddrescue, jfsutils, jq, nbdkit, pv, qemu-utils, reiserfsprogs
 Section: admin
 Priority: optional
-Description: find how a striped array was laid out, from images of its disks
- reraid lists every layout of a RAID 0, 4, 5, 6 or 10 (near=2) that the
- contents of raw images of its disks allow, writes the volume of one, and
- rebuilds a lost disk. It needs no metadata of the array, only reads the
- images, and does not choose among the layouts. Each function of it is
- proved to meet its contract.
+Description: find the geometry of a RAID array from raw images of its disks
+ reraid lists every layout of a RAID 0, 4, 5, 6 or 10 in its search range that
+ passes its tests, writes the volume of one, and rebuilds a missing disk. It
+ needs no metadata of the array, and only reads the images. It does not choose
+ among the layouts. Each function of it is proved to meet its contract.
  .
- reraid-try goes the whole way from images to volumes that the checkers of
- file systems have read; reraid-ranges cuts large searches into ranges.
+ reraid-try does all steps, from images to volumes that file system checkers
+ have read. reraid-mount shows a volume as a file, reraid-nbd as a network block
+ device. reraid-ranges divides large searches.
 END
 name=reraid_${version}_$machine.deb
 dpkg-deb --root-owner-group -Zxz --build "$tree" "$folder/$name" >&2

@@ -1,5 +1,5 @@
 #!/usr/bin/env python3
-"""Prints of the lines of bench/measuring/try.py what docs/REAL-DISKS.md says of them: a table of each level with each volume, one of each trait, and
+"""Prints of the lines of bench/measuring/try.py what docs/RESULTS.md says of them: a table of each level with each volume, one of each trait, and
 sentences on them and on each two traits.
 
 Usage: bench/measuring/try.py > lines; bench/measuring/try_tables.py < lines

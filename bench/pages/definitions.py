@@ -3,7 +3,7 @@
 
     bench/pages/definitions.py             prints those of all crates, from the bottom to the top
     bench/pages/definitions.py CRATE..     prints those of these crates
-    bench/pages/definitions.py --compare   says which definitions that docs/DEFINITIONS.md names are gone; ends with 1 where there is one
+    bench/pages/definitions.py --compare   prints which definitions that docs/DEFINITIONS.md and docs/PROMISES.md name are gone; status 1 if one is
 
 A comment is the lines that begin with `-- ` just above a definition. A definition with no comment of its own is part of the one above it
 where nothing stands between but such definitions, and then stands with it. Which definitions are printed is said at the top of that page.
@@ -14,8 +14,8 @@ import re
 import sys
 
 TOP = pathlib.Path(__file__).resolve().parents[2]
-PAGE = TOP / "docs/DEFINITIONS.md"
-# On the page a file of definitions as `crate/File`, and after a colon the names in it.
+PAGES = (TOP / "docs/DEFINITIONS.md", TOP / "docs/PROMISES.md")
+# On a page a file of definitions as `crate/File`, and after a colon the names in it.
 NAMED = re.compile(r"`(\w+)/(\w+)`: (`\w+`(?:, `\w+`)*)")
 HEAD = re.compile(r"^(?:abbrev |unfoldable )?pub (?:record |data )?(?P<name>[^\s:({]+)|^(?:abbrev|unfoldable) pub (?:record |data )?(?P<other>[^\s:({]+)")
 USE = re.compile(r"^(?:ghost )?use Rattle\.(\w+)\.specs\.([\w.]+)\.\{(.*?)\}", re.M | re.S)
@@ -198,12 +198,13 @@ def sections(asked):
 
 
 def gone():
-    """The definitions that the page names and that do not stand where it says, and the files of definitions that are not there."""
+    """Return the definitions that a page names and that are not in the file that it names."""
     found = []
-    for crate, file, names in NAMED.findall(PAGE.read_text()):
-        path = TOP / "crates" / crate / "specs" / f"{file}.antt"
-        there = {it.name for it in definitions_of(path)} if path.exists() else set()
-        found += [f"{crate}/{file}: {name}" for name in re.findall(r"\w+", names) if name not in there]
+    for page in PAGES:
+        for crate, file, names in NAMED.findall(re.sub(r"\s+", " ", page.read_text())):
+            path = TOP / "crates" / crate / "specs" / f"{file}.antt"
+            there = {it.name for it in definitions_of(path)} if path.exists() else set()
+            found += [f"{page.name} names what is gone: {crate}/{file}: {name}" for name in re.findall(r"\w+", names) if name not in there]
     return found
 
 
@@ -218,6 +219,6 @@ def asked_for(words):
 if __name__ == "__main__":
     if sys.argv[1:] == ["--compare"]:
         missing = gone()
-        print("\n".join(f"docs/DEFINITIONS.md names what is gone: {it}" for it in missing) or "docs/DEFINITIONS.md names definitions that are there")
+        print("\n".join(missing) or "DEFINITIONS.md and PROMISES.md name definitions that are there")
         sys.exit(1 if missing else 0)
     print(sections(asked_for(sys.argv[1:])).lstrip("\n"), end="")

@@ -48,12 +48,14 @@ class XfsMaker:
         # the fields of the first bytes, and those of version 5 from 208 on
         struct.pack_into(">4sI", block, 0, b"XFSB", max(512, size) << bits if rng.random() < 0.97 else 4096)
         block[32:48] = b"\5" * 15 + bytes([rng.choice([5, 5, 6])]) if own else identifier
-        struct.pack_into(">II", block, 84, self.group_blocks, self.groups if rng.random() < 0.9 else rng.choice([0, 1, 3]))
-        struct.pack_into(">HHH", block, 100, rng.choice([0xB4A5] * 15 + [0xB4A4, 5, 0xB4B5]), 512, size)
+        group_blocks = self.group_blocks if rng.random() < 0.85 else max(1, self.group_blocks - rng.choice([1, 2]))
+        struct.pack_into(">II", block, 84, group_blocks, self.groups if rng.random() < 0.9 else rng.choice([0, 1, 3]))
+        unit = 512 if rng.random() < 0.85 else rng.choice([1024, 4096])
+        struct.pack_into(">HHH", block, 100, rng.choice([0xB4A5] * 15 + [0xB4A4, 5, 0xB4B5]), unit, size)
         block[123], block[124] = bits, self.block_bits
         struct.pack_into(">I", block, 216, rng.choice([3, 3, 0xB]) | 4 * own)
         block[248:264] = identifier if own else rng.choice([bytes(16), identifier, self.identifier()])
-        return bytes(block)
+        return with_checksum(bytes(block), 224) if rng.random() < 0.93 else bytes(block)
 
     def number(self):
         """Mostly the number of an inode that has a place and counts, or one beside it."""
@@ -93,7 +95,7 @@ def with_checksum(block, at):
 def xfs_sectors(rng):
     """Sectors of file systems of XFS."""
     maker = XfsMaker(rng)
-    made = [maker.superblock() for _ in range(rng.choice([0, 1, 1, 1, 1, 2, 3]))] + [maker.inode() for _ in range(rng.choice([1, 5, 10]))]
+    made = [maker.superblock() for _ in range(rng.choice([0, 1, 1, 1, 1, 2, 3, 4, 6]))] + [maker.inode() for _ in range(rng.choice([1, 5, 10]))]
     made += [added_sectors([block[:SECTOR] for block in rng.sample(made, 3)])] if len(made) > 4 and rng.random() < 0.5 else []
     made += [added_sectors([maker.inode()[:SECTOR] for _ in range(3)])] if rng.random() < 0.5 else []
     return [changed(rng, block, 0.04) for block in made]

@@ -65,10 +65,15 @@ class XfsPlaces(NamedTuple):
         return ((group * self.group_blocks + block) * self.block + inode * self.size) // SECTOR
 
 
+def has_checksum(block, at):
+    """Whether the checksum at a place is that of all these bytes, with itself as zeros."""
+    told, = struct.unpack_from("<I", block, at)
+    return register_after(ALL_ONES, block[:at] + bytes(4) + block[at + 4:]) ^ ALL_ONES == told
+
+
 def is_whole(inode):
-    """Whether its checksum is that of all these bytes."""
-    told, = struct.unpack_from("<I", inode, 100)
-    return register_after(ALL_ONES, inode[:100] + bytes(4) + inode[104:]) ^ ALL_ONES == told
+    """Whether an inode's checksum is that of all these bytes."""
+    return has_checksum(inode, 100)
 
 
 def xfs_inode(sector):
@@ -81,10 +86,13 @@ def xfs_inode(sector):
 
 
 def xfs_places(sector):
-    """What a superblock of version 5 says of its inodes."""
+    """What a superblock of version 5 says of its inodes. Its checksum, of one sector of its file system, is only looked at if that is all of
+    this one."""
     version, size = struct.unpack_from(">H2xH", sector, 100)
     block, group_blocks, groups, incompatible = (struct.unpack_from(">I", sector, at)[0] for at in (4, 84, 88, 216))
     if sector[:4] != b"XFSB" or version & 15 != 5 or size not in (512, 1024, LARGEST):
+        return None
+    if struct.unpack_from(">H", sector, 102)[0] == SECTOR and not has_checksum(sector, 224):
         return None
     found = XfsPlaces(sector[248:264] if incompatible & 4 else sector[32:48], block, group_blocks, groups, size, sector[123], sector[124])
     if found.inode_bits > 7 or size << found.inode_bits != block or not 0 < group_blocks <= 2 ** min(31, found.block_bits):

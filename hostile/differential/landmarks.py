@@ -7,9 +7,11 @@ import struct
 import uuid
 import zlib
 
+from collections import Counter
 from typing import NamedTuple
 
 import pairs
+import tables
 import trees
 from inodes import LARGEST, STRETCH, XfsPlaces, xfs_inode, xfs_places
 from texts import FAR, MARKS_OF, SECTOR, Group, Mark
@@ -101,7 +103,7 @@ def ext(sector):
 
 READERS = {"gpt": gpt, "boot": boot, "record": record, "super": super_block, "agf": head_of_group(b"XAGF"),
            "agi": head_of_group(b"XAGI"), "lvm": label, "btrfs": btrfs, "ext": ext, "xfs5": xfs_inode,
-           "btrfstree": trees.tree_block, "extinode": pairs.pair}
+           "btrfstree": trees.tree_block, "extinode": pairs.pair, "mft": tables.landmark}
 MAGICS = {b"EFI ": "gpt", b"FILE": "record", b"XFSB": "super", b"XAGF": "agf", b"XAGI": "agi", b"LABE": "lvm"}
 
 
@@ -113,9 +115,12 @@ def read(block):
         found = READERS[kind](block) if kind else None
         if found is not None and (kind != "xfs5" or found.is_small):
             return kind, found
-    # what may begin a larger inode is of no other kind
-    found = xfs_inode(block)
-    return ("xfs5", found) if found else (None, None)
+    # what may begin a larger inode, and then what tells of file records, is of no kind before
+    for kind in ("xfs5", "mft"):
+        found = READERS[kind](block)
+        if found:
+            return kind, found
+    return None, None
 
 
 def own_table(header, sector, length, unit):
@@ -129,7 +134,8 @@ def sightings(images, first, end, kinds, passed_over, unit):
     wanted = {kind for asked in kinds for kind in MARKS_OF[asked]}
 
     def is_wanted(kind, found):
-        return kind in wanted or kind == "super" and "xfs5" in wanted and found.places or kind == "ext" and "extinode" in wanted
+        return (kind in wanted or kind == "super" and "xfs5" in wanted and found.places or kind == "ext" and "extinode" in wanted
+                or kind in ("boot", "record") and "mft" in wanted)
     seen = {kind: [] for kind in READERS}
     for sector in range(first, end):
         for place, image in enumerate(images):
@@ -175,20 +181,27 @@ def gathered(kind, seen, key, rule):
     return [Group(kind, marks) for marks in list(groups.values())[:32]]
 
 
-def xfs5_groups(seen, images):
-    """A group for each identifier of inodes that a superblock tells; the first superblock that does says where they lie. How many bytes an
-    inode has, it says itself, with those that follow where it was seen."""
+def deciding(stated):
+    """Of each identifier what most superblocks state of where inodes lie, of equals the first."""
+    votes = Counter(stated)
+    most = {places.uuid: max(votes[other] for other in votes if other.uuid == places.uuid) for places in votes}
     systems = {}
-    for _, _, found in seen["super"]:
-        if found.places:
-            systems.setdefault(found.places.uuid, found.places)
+    for places in stated:
+        if votes[places] == most[places.uuid]:
+            systems.setdefault(places.uuid, places)
+    return systems
 
-    def is_mark(sector, place, found, places):
+
+def xfs5_groups(seen, images):
+    """A group for each identifier of inodes of which some are marks: what its superblocks state says where they lie. How many bytes an inode
+    has, it says itself, with those that follow where it was seen."""
+    systems, groups = deciding([found.places for _, _, found in seen["super"] if found.places]), {}
+    for sector, place, found in seen["xfs5"]:
+        places = systems.get(found.uuid)
         size = found.size(images[place][sector * SECTOR:sector * SECTOR + LARGEST])
-        return size == places.size and found.number * size % STRETCH == 0 and places.sector(found.number) is not None
-    return [Group("xfs5", [Mark("xfs5", place, sector, f"at:{places.sector(found.number)}") for sector, place, found in seen["xfs5"]
-                           if found.uuid == identifier and is_mark(sector, place, found, places)])
-            for identifier, places in list(systems.items())[:32]]
+        if places and size == places.size and found.number * size % STRETCH == 0 and places.sector(found.number) is not None:
+            groups.setdefault(found.uuid, []).append(Mark("xfs5", place, sector, f"at:{places.sector(found.number)}"))
+    return [Group("xfs5", marks) for marks in list(groups.values())[:32]]
 
 
 def tree_groups(seen, images):
@@ -234,7 +247,8 @@ def groups_of(seen, images, unit, kinds):
         return [Mark(kind, place, sector, f"at:{found[0] * wide + after * (unit // 512)}") for kind, after in (("agf", 1), ("agi", 2))
                 for sector, place, found in seen[kind] if found[0] < count]
 
-    groups += [Group("ntfs", marks) for marks in file_systems(("boot", seen["boot"]), lambda g: f"either:0:{g[1]}", records)]
+    if "ntfs" in kinds:
+        groups += [Group("ntfs", marks) for marks in file_systems(("boot", seen["boot"]), lambda g: f"either:0:{g[1]}", records)]
     supers = [(sector, place, found.fields) for sector, place, found in seen["super"] if "xfs" in kinds]
     groups += [Group("xfs", marks) for marks in
                file_systems(("super", supers), lambda g: f"every:{g[2] * g[1] // 512}:{g[3]}:0", heads)]
@@ -243,4 +257,5 @@ def groups_of(seen, images, unit, kinds):
     if "ext" in kinds:
         groups += gathered("ext", seen, lambda sector, place, found: found[0], lambda found: found[1])
     groups += pair_groups(seen, images) if "extinode" in kinds else []
-    return groups + (xfs5_groups(seen, images) if "xfs5" in kinds else []) + tree_groups(seen, images)
+    groups += (xfs5_groups(seen, images) if "xfs5" in kinds else []) + tree_groups(seen, images)
+    return groups + (tables.groups(seen, images) if "mft" in kinds else [])

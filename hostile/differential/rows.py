@@ -387,13 +387,14 @@ def xfs_inode(number, uuid=b"\6" * 16, wrong=0, version=3):
     return bytes(block)
 
 
-def xfs_super(uuid=b"\6" * 16, version=0xB4A5, size=512, features=3, meta=bytes(16), groups=4):
+def xfs_super(uuid=b"\6" * 16, version=0xB4A5, size=512, features=3, meta=bytes(16), groups=4, unit=512, wrong=0):
     """A superblock of groups of 17 blocks of 4,096 bytes, for which numbers have room for 32."""
     block = bytearray(SECTOR)
     block[:4], block[32:48], block[123:125], block[248:264] = b"XFSB", uuid, bytes([3, 5]), meta
-    for place, form, value in ((4, "I", 4096), (84, "I", 17), (88, "I", groups), (100, "H", version), (102, "H", 512), (104, "H", size),
+    for place, form, value in ((4, "I", 4096), (84, "I", 17), (88, "I", groups), (100, "H", version), (102, "H", unit), (104, "H", size),
                                (216, "I", features)):
         struct.pack_into(">" + form, block, place, value)
+    struct.pack_into("<I", block, 224, crc32c(block) ^ wrong)
     return bytes(block)
 
 
@@ -430,24 +431,40 @@ def inodes():
          f"group xfs5\nmark xfs5 0 3 at:0\nmark xfs5 0 7 at:{16 * 8}\nmark xfs5 0 9 at:{16 * 8}\n")
     for other in (xfs_inode(1024), xfs_inode(385), xfs_inode(384 - 64), xfs_inode(384, wrong=1), xfs_inode(384, b"\7" * 16), xfs_inode(384, version=2),
                   b"IO" + xfs_inode(384)[2:], xfs_inode(2 ** 64 - 128)):
-        seen({3: head, 5: other}, "group xfs5\n")
+        seen({3: head, 5: other}, "")
     # inode 136 begins block 17, which group 0 has not; where it has, it does not begin 64 KiB
-    seen({3: head, 5: xfs_inode(136)}, "group xfs5\n")
+    seen({3: head, 5: xfs_inode(136)}, "")
     for other in (xfs_super(version=0xB4A4), xfs_super(size=1024), xfs_super(size=256), xfs_super(groups=0)):
         seen({3: other, 5: xfs_inode(384)}, "")
     seen({3: head, 5: xfs_inode(384)}, "", "kinds=lvm")
     seen({3: head, 5: xfs_inode(384)}, f"group xfs\nmark super 0 3 every:{17 * 8}:4:0\n", "kinds=xfs")
     seen({3: head, 5: xfs_inode(384)}, f"group xfs\nmark super 0 3 every:{17 * 8}:4:0\ngroup xfs5\nmark xfs5 0 5 at:{33 * 8}\n", "kinds=xfs,xfs5")
     seen({3: head, 5: xfs_inode(384)}, "", "kinds=xfs5 drop=0:3")
-    seen({3: head, 5: xfs_inode(384)}, "group xfs5\n", "kinds=xfs5 drop=0:5")
+    seen({3: head, 5: xfs_inode(384)}, "", "kinds=xfs5 drop=0:5")
     # the identifier of inodes may be another than that of the file system
     other = xfs_super(b"\7" * 16, features=7, meta=b"\6" * 16)
     seen({3: other, 5: xfs_inode(384)}, f"group xfs5\nmark xfs5 0 5 at:{33 * 8}\n")
-    seen({3: other, 5: xfs_inode(384, b"\7" * 16)}, "group xfs5\n")
+    seen({3: other, 5: xfs_inode(384, b"\7" * 16)}, "")
     seen({3: xfs_super(meta=b"\7" * 16), 5: xfs_inode(384)}, f"group xfs5\nmark xfs5 0 5 at:{33 * 8}\n")
-    # the first superblock of an identifier says where inodes lie
-    seen({3: xfs_super(groups=1), 4: head, 5: xfs_inode(384), 6: xfs_inode(128)}, f"group xfs5\nmark xfs5 0 6 at:{16 * 8}\n")
-    seen({3: xfs_super(b"\7" * 16), 4: head, 5: xfs_inode(384)}, f"group xfs5\ngroup xfs5\nmark xfs5 0 5 at:{33 * 8}\n")
+    # what most superblocks of an identifier state says where inodes lie, of equals the first
+    small, found = xfs_super(groups=1), f"group xfs5\nmark xfs5 0 5 at:{33 * 8}\nmark xfs5 0 6 at:{16 * 8}\n"
+    two = {5: xfs_inode(384), 6: xfs_inode(128)}
+    seen({3: small, 4: head, **two}, f"group xfs5\nmark xfs5 0 6 at:{16 * 8}\n")
+    seen({3: head, 4: small, **two}, found)
+    seen({3: small, 4: head, 7: head, **two}, found)
+    seen({3: small, 4: head, 7: head, 8: small, **two}, f"group xfs5\nmark xfs5 0 6 at:{16 * 8}\n")
+    seen({3: small, 4: head, 7: xfs_super(groups=2), **two}, f"group xfs5\nmark xfs5 0 6 at:{16 * 8}\n")
+    # a superblock whose checksum is wrong tells nothing, but with larger sectors
+    seen({3: xfs_super(wrong=1), 5: xfs_inode(384)}, "")
+    seen({3: xfs_super(wrong=1, unit=1024), 5: xfs_inode(384)}, f"group xfs5\nmark xfs5 0 5 at:{33 * 8}\n")
+    seen({3: xfs_super(groups=1, wrong=1), 4: head, **two}, found)
+    seen({3: xfs_super(groups=1, wrong=1, unit=4096), 4: head, **two}, f"group xfs5\nmark xfs5 0 6 at:{16 * 8}\n")
+    # groups stand in the order of their first marks, and none is without one
+    seen({3: xfs_super(b"\7" * 16), 4: head, 5: xfs_inode(384)}, f"group xfs5\nmark xfs5 0 5 at:{33 * 8}\n")
+    seen({3: xfs_super(b"\7" * 16), 4: head, 5: xfs_inode(384), 6: xfs_inode(0, b"\7" * 16)},
+         f"group xfs5\nmark xfs5 0 5 at:{33 * 8}\ngroup xfs5\nmark xfs5 0 6 at:0\n")
+    seen({3: xfs_super(b"\7" * 16), 4: head, 5: xfs_inode(0), 6: xfs_inode(0, b"\7" * 16), 7: xfs_inode(384)},
+         f"group xfs5\nmark xfs5 0 5 at:0\nmark xfs5 0 7 at:{33 * 8}\ngroup xfs5\nmark xfs5 0 6 at:0\n")
     # three of them added, as P has them, are an inode again, of the numbers added bit by bit
     total = 0
     for number in (128, 256, 512):
@@ -478,18 +495,18 @@ def larger_inodes():
         seen(f"group xfs5\nmark xfs5 1 60 at:{place}\n", {63: head}, {60: inode})
         # with another checksum, or what lies past the first sector on another image or cut off, it is no mark
         for other in (inode[:-1] + bytes([inode[-1] ^ 1]), inode[:100] + bytes([inode[100] ^ 1]) + inode[101:]):
-            seen("group xfs5\n", {9: head, 5: other})
+            seen("", {9: head, 5: other})
         for images in (({9: head, 5: inode[:SECTOR], 6: units(1)}, {6: inode[SECTOR:]}), ({6: inode[SECTOR:]}, {9: head, 5: inode[:SECTOR], 6: units(1)})):
-            seen("group xfs5\n", *images)
-        seen("group xfs5\n", {9: head, 61: inode[:3 * SECTOR]})
-    seen("group xfs5\n", {9: largest, 5: there})
-    seen("group xfs5\n", {9: large, 5: most})
+            seen("", *images)
+        seen("", {9: head, 61: inode[:3 * SECTOR]})
+    seen("", {9: largest, 5: there})
+    seen("", {9: large, 5: most})
     # of inodes of 1,024 bytes each 64th is a mark
     second = bytearray(there)
     struct.pack_into(">Q", second, 152, 328064 + 32)
     struct.pack_into("<I", second, 100, 0)
     struct.pack_into("<I", second, 100, crc32c(second))
-    seen("group xfs5\n", {9: large, 5: bytes(second)})
+    seen("", {9: large, 5: bytes(second)})
     seen("group xfs5\nmark xfs5 0 7 at:541440\n", {9: large, 5: bytes(second), 7: there})
 
 
@@ -526,8 +543,10 @@ def tree_blocks():
     seen({3: header, 40: leaf}, "", "kinds=xfs5")
     # what the header of another block says: another file system, an address beside, of another chunk or of none
     for change in (header[:32] + b"\7" * 16 + header[48:], header[:49] + bytes([header[49] ^ 0x40]) + header[50:], header[:54] + b"\1" + header[55:],
-                   header[:63] + b"\2" + header[64:], header[:100] + b"\x08" + header[101:], header[:64] + b"_BHRfS_M" + header[72:]):
+                   header[:63] + b"\2" + header[64:], header[:100] + b"\x08" + header[101:], header[:64] + b"_BHRfS_M" + header[72:],
+                   *(header[:56] + flags.to_bytes(7, "little") + header[63:] for flags in (0, 2, 4, 5, 257, 2 ** 55 + 1))):
         seen({3: change, 40: leaf}, f"group btrfstree\nmark btrfstree 0 40 {own}")
+    seen({3: header[:56] + b"\3" + header[57:], 40: leaf}, both)
     seen({3: header[:48] + (13631488 + 65536).to_bytes(8, "little") + header[56:], 40: leaf},
          f"group btrfstree\nmark btrfstree 0 3 at:{(13631488 + 65536) // SECTOR}\nmark btrfstree 0 40 {own}")
     # the latest leaf tells, if it is the only one of its generation or agrees with the others
@@ -539,6 +558,50 @@ def tree_blocks():
         later = crc32c(later[32:]).to_bytes(4, "little") + later[4:]
         seen({3: header, 5: later, 40: leaf},
              "group btrfstree\n" + (f"mark btrfstree 0 3 {rule}" if rule else "") + f"mark btrfstree 0 5 {own}mark btrfstree 0 40 {own}")
+
+
+def record_of(number, runs=b"", mark=b"\1\0", last=None):
+    """A file record of 1,024 bytes as it is written, with $DATA in these runs."""
+    data = (struct.pack("<IIBBHHHQQHH", 0x80, 88, 1, 0, 64, 0, 0, 0, 19, 64, 0).ljust(64, b"\0") + runs).ljust(88, b"\0") if runs else b""
+    head = b"FILE" + struct.pack("<HHQHHHHIIQHHI", 48, 3, 0, 1, 1, 56, 1, 0, 1024, 0, 0, 0, number) + mark + bytes(4)
+    record = (head.ljust(56, b"\0") + data + b"\xFF" * 4).ljust(1024, b"\0")
+    return record[:510] + mark + record[512:1022] + (last or mark)
+
+
+def volume_of(cluster=8, table=4, mirror=2):
+    """A boot sector with these sectors of a cluster, by their code, and records of 1,024 bytes."""
+    head = b"\xEB\x52\x90NTFS    " + struct.pack("<HB", SECTOR, cluster) + bytes(26) + struct.pack("<QQQB", 1000, table, mirror, 246)
+    return head.ljust(SECTOR - 2, b"\0") + b"\x55\xAA"
+
+
+def file_records():
+    """Records of a table of two runs: 4 clusters from cluster 4 on, and 16 from cluster 68 on. A cluster has 8 sectors, a record 2."""
+    asked = {"levels": 0, "members": 2, "patterns": "plain", "syndromes": "none", "chunks": 1, "offsets": 0}
+    words = "survey " + " ".join(f"{name}={value}" for name, value in asked.items()) + " origins=0"
+    runs = b"\x11\x04\x04\x11\x10\x40\0"
+    there = {0: volume_of(), 10: record_of(0, runs), 12: record_of(16), 14: record_of(20), 16: record_of(80), 18: record_of(3), 20: record_of(5),
+             22: record_of(24, last=b"\2\0"), 24: record_of(17), 98: record_of(28, mark=b"\7\7"), 100: record_of(32)[:SECTOR]}
+
+    def seen(changes, marks, more="kinds=mft"):
+        image = bytearray(101 * SECTOR)
+        for sector, block in {**there, **changes}.items():
+            image[sector * SECTOR:sector * SECTOR + len(block)] = block
+        listed = "".join(f"mark mft 0 {mark}\n" for mark in marks)
+        row(f"{words} {more}", [bytes(image)], out=plan([101], groups=f"group mft\n{listed}" if marks else "", **asked))
+    usual = ["12 at:544", "14 at:552", "18 either:38:22", "20 at:42", "98 at:568"]
+    seen({}, usual)
+    seen({}, [], "kinds=xfs5")
+    # no boot sector, another one's table, a record 0 that is passed over, not whole or without runs that begin there
+    for changes, more in (({0: bytes(SECTOR)}, ""), ({0: volume_of(table=5)}, ""), ({}, " drop=0:10"), ({10: record_of(0, runs, last=b"\2\0")}, ""),
+                          ({10: record_of(0)}, ""), ({10: record_of(0, b"\x11\x04\x05\0")}, ""), ({10: record_of(0, b"\x11\x04\x04\x01\x04\0")}, ""),
+                          ({10: record_of(0, b"\x11\x04\x04\x11\0\x40\0")}, ""), ({10: record_of(0, b"\x11\x04\x04\x11\x04\xFB\0")}, "")):
+        seen(changes, [], "kinds=mft" + more)
+    # one run alone, runs that go back, two boot sectors of one table
+    seen({10: record_of(0, b"\x11\x04\x04\0")}, ["18 either:38:22", "20 at:42"])
+    seen({10: record_of(0, b"\x11\x04\x04\x11\x10\xFE\0")}, ["12 at:16", "14 at:24", "18 either:38:22", "20 at:42", "98 at:40"])
+    seen({1: volume_of()}, usual)
+    # clusters of 256 sectors, whose mirror repeats 128 records
+    seen({0: volume_of(248)}, ["12 either:1056:544", "14 either:1064:552", "16 either:1184:672", "18 either:1030:518", "20 either:1034:522", "98 either:1080:568"])
 
 
 def inode_pairs():
@@ -619,12 +682,12 @@ def own_bounds():
                                    (21, "3\nmode each", f"group btrfs\nbounds 1 {2 ** 55}\n"), (1, "4\nmode each", "")):
         row("list", images, plan([4, 4], version, groups, **values), status=2, line=f"plan line {place} is not understood")
     # a text of version 3 in which no group has bounds is refused at its end, or at the mark after which no group may begin
-    last = "group btrfstree\n" * 31
-    row("list", images, plan([4, 4], "3\nmode common", last + "group btrfstree\nmark btrfstree 0 1 at:0\n", **values), status=2,
+    last = "group mft\n" * 31
+    row("list", images, plan([4, 4], "3\nmode common", last + "group mft\nmark mft 0 1 at:0\n", **values), status=2,
         line="plan line 52 is not understood")
-    row("list", images, plan([4, 4], "3\nmode common", last + "mark btrfstree 0 1 at:0\n", **values), status=2, line="plan line 52 is not understood")
-    row("list", images, plan([4, 4], "3\nmode common", last + "group btrfstree\n", **values), status=2, line="plan line 52 is not understood")
-    row("list", images, plan([4, 4], "3\nmode common", f"group gpt\nbounds 0 0\n{last}group btrfstree\nmark btrfstree 0 1 at:0\n", **values),
+    row("list", images, plan([4, 4], "3\nmode common", last + "mark mft 0 1 at:0\n", **values), status=2, line="plan line 52 is not understood")
+    row("list", images, plan([4, 4], "3\nmode common", last + "group mft\n", **values), status=2, line="plan line 52 is not understood")
+    row("list", images, plan([4, 4], "3\nmode common", f"group gpt\nbounds 0 0\n{last}group mft\nmark mft 0 1 at:0\n", **values),
         out="next 2 of 2\n")
     for mode, place in (("common", None), ("each", 12)):
         text = plan([4, 4], f"3\nmode {mode}", "group btrfs\nbounds 0 0\n", **{**values, "offsets": 2 ** 54})
@@ -725,8 +788,8 @@ def differs(words, images, text, out, status, line, ends):
 
 
 def main():
-    for rows in (earlier, inodes, larger_inodes, tree_blocks, inode_pairs, own_bounds, own_offsets, delayed_rows, large_blocks, rescue, near, copies,
-                 file_systems, relations):
+    for rows in (earlier, inodes, larger_inodes, tree_blocks, inode_pairs, file_records, own_bounds, own_offsets, delayed_rows, large_blocks, rescue, near,
+                 copies, file_systems, relations):
         rows()
     differing = 0
     for words, *rest in ROWS:

@@ -6,6 +6,7 @@ import zlib
 from inode_cases import XfsMaker, crowded_inodes, inodes_survey
 from landmarks import BTRFS_PLACES
 from making import EDGES, Case, files_of, shuffled, some_bytes
+from mft_cases import MftMaker, crowded_records, mft_survey
 from pair_cases import PairMaker, pairs_survey
 from texts import FAR, KINDS, MOST, MOVED, RANKS, SECTOR
 from tree_cases import TreeMaker, crowded_trees, trees_survey
@@ -139,14 +140,14 @@ def of_two_kinds(rng, sector, length):
 
 def landmark(rng, sector, length, variety):
     """A sector that is a landmark, mostly."""
-    kind = rng.choice(["gpt", "gpt", "boot", "record", "super", "agf", "agi", "lvm", "btrfs", "ext", "ext", "two", "super5", "xfs5", "tree", "pair"])
+    kind = rng.choice(["gpt", "gpt", "boot", "record", "super", "agf", "agi", "lvm", "btrfs", "ext", "ext", "two", "super5", "xfs5", "tree", "pair", "mft"])
     block = {"gpt": lambda: gpt_sector(rng, sector, length), "boot": lambda: boot_sector(rng, rng.randrange(variety)),
              "record": lambda: record_sector(rng), "super": lambda: super_sector(rng, rng.randrange(variety)),
              "agf": lambda: head_sector(rng, b"XAGF"), "agi": lambda: head_sector(rng, b"XAGI"),
              "lvm": lambda: label_sector(rng, sector), "btrfs": lambda: btrfs_sector(rng, rng.randrange(variety)),
              "ext": lambda: ext_sector(rng, rng.randrange(variety)), "two": lambda: of_two_kinds(rng, sector, length),
              "super5": lambda: XfsMaker(rng).superblock(), "xfs5": lambda: XfsMaker(rng).inode()[:SECTOR], "tree": lambda: TreeMaker(rng).block(),
-             "pair": lambda: PairMaker(rng).pair()}[kind]()
+             "pair": lambda: PairMaker(rng).pair(), "mft": lambda: MftMaker(rng).record(rng.choice([0, 8, 16, 20, 5]), 1024)[:SECTOR]}[kind]()
     if rng.random() < 0.04:
         at = rng.randrange(SECTOR)
         block = block[:at] + bytes([block[at] ^ 1 << rng.randrange(8)]) + block[at + 1:]
@@ -205,9 +206,13 @@ def survey_case(rng):
         return crowded_inodes(rng)
     if way < 0.094:
         return crowded_trees(rng)
-    if way < 0.25:
+    if way < 0.097:
+        return crowded_records(rng)
+    if way < 0.2:
+        return mft_survey(rng, survey_operands)
+    if way < 0.3:
         return inodes_survey(rng, survey_operands)
-    if way < 0.4:
+    if way < 0.42:
         return trees_survey(rng, survey_operands)
     if way < 0.5:
         return pairs_survey(rng, survey_operands)

@@ -15,10 +15,10 @@ MOST_SETS = 1024
 LEVELS = [0, 5, 6]
 PATTERNS = ("plain la ra ls rs parity-first parity-last n-restart n-continue la-6 ra-6 ls-6 rs-6 parity-first-6").split()
 SYNDROMES = ["none", "after-q", "by-data", "by-slot"]
-KINDS = ["gpt", "ntfs", "xfs", "btrfs", "lvm", "ext", "extinode", "xfs5", "btrfstree"]
+KINDS = ["gpt", "ntfs", "xfs", "btrfs", "lvm", "ext", "extinode", "xfs5", "btrfstree", "mft"]
 USUAL_KINDS = KINDS[:5]
 MARKS_OF = {"gpt": ["gpt"], "ntfs": ["boot", "record"], "xfs": ["super", "agf", "agi"], "btrfs": ["btrfs"], "lvm": ["lvm"], "ext": ["ext"],
-            "extinode": ["extinode"], "xfs5": ["xfs5"], "btrfstree": ["btrfstree"]}
+            "extinode": ["extinode"], "xfs5": ["xfs5"], "btrfstree": ["btrfstree"], "mft": ["mft"]}
 LAYOUTS = [f"{kind}{copies}" for kind in ("near", "far", "offset") for copies in (2, 3, 4)]
 FIVE = PATTERNS[1:7]
 SIX = PATTERNS[1:]

@@ -44,7 +44,8 @@ class TreeMaker:
         """The header of a tree block."""
         rng = self.rng
         revision = rng.choice([0, 1, 1, 1, 1, 1, 1, 1, 1, 1]) if rng.random() < 0.98 else rng.choice([2, 255])
-        head = rng.randbytes(32) + self.identifier() + struct.pack("<QQ", address, revision << 56 | rng.choice([1, 1, 3]))
+        flags = rng.choice([1, 1, 3]) if rng.random() < 0.96 else rng.choice([0, 2, 5, 257, 2 ** 55 | 1])
+        head = rng.randbytes(32) + self.identifier() + struct.pack("<QQ", address, revision << 56 | flags)
         head += rng.randbytes(16) + struct.pack("<QQIB", rng.choice([5, 6, 6, 7, RANKS - 1]), owner, items, level)
         return head if rng.random() < 0.98 else head[:64] + b"_BHRfS_M" + head[72:]
 

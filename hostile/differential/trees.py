@@ -13,6 +13,7 @@ HEADER, KEYED = 101, 25
 MOST_ITEMS = (65536 - HEADER) // KEYED
 MOST_CHUNKS = (NODE - HEADER) // (KEYED + 80)
 CHUNK_TREE, CHUNK_ITEM, DEVICE, DUP = 3, 228, 1, 4
+WRITTEN, RELOC = 1, 2  # flags of a block
 
 
 class TreeBlock(NamedTuple):
@@ -28,6 +29,8 @@ def tree_block(sector):
     address, = struct.unpack_from("<Q", sector, 48)
     generation, owner, items, level = struct.unpack_from("<QQIB", sector, 80)
     if sector[64:72] == b"_BHRfS_M" or not any(sector[32:48]) or address == 0 or address % 4096 or sector[63] > 1:
+        return None
+    if int.from_bytes(sector[56:63], "little") not in (WRITTEN, WRITTEN | RELOC):
         return None
     is_leaf = owner == CHUNK_TREE and level == 0
     if level > 7 or items > MOST_ITEMS or (address % STRETCH and not is_leaf):

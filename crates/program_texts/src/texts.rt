@@ -28,16 +28,16 @@ of its disks. It only reads the images. Operands come in any order.
       reraid survey levels=5 members=3 missing=1 -- a.img b.img > plan
   list [from=RANK] [size=LINES] [span=RANKS] [pages=PAGES] [form=FORM]
        -- IMAGE..  < PLAN
-      the parameter sets of the plan that pass
+      the layouts of the plan that pass its tests
       reraid list -- a.img b.img < plan > listing
   check set=SET -- IMAGE..  < PLAN
-      the tests of one set
+      the tests of one layout
       reraid check set=5:ls:none:128:2048:0,-,1 -- a.img b.img < plan
   map set=SET sector=SECTOR [end=END] -- IMAGE..
-      where a sector of the volume of a set lies
+      the place of a sector of the volume of a layout
       reraid map set=5:ls:none:128:2048:0,-,1 sector=0 -- a.img b.img
   write set=SET [end=END] -- IMAGE..  > VOLUME
-      the volume of a set
+      the volume of a layout
       reraid write set=5:ls:none:128:2048:0,-,1 -- a.img b.img > volume
   rebuild set=SET slot=SLOT [end=END] -- IMAGE..  > MEMBER
       the member of an empty slot
@@ -46,15 +46,15 @@ of its disks. It only reads the images. Operands come in any order.
       what a search finds of an array that is made in memory
       reraid sample number=1 set=5:ls:none:8:0:0,1,2 rows=64 --
   classes images=IMAGES end=END --  < LINES
-      which sets of a listing give the same volume, whatever the images hold
+      the layouts of a listing that give equal volumes, whatever the images hold
       reraid classes images=2 end=18432 -- < listing
   mirrors [layouts=LIST] [members=LIST] [chunks=LIST] [offsets=LIST]
           [missing=M] [foreign=F] [badrows=B] [window=W] [end=END] [from=RANK]
           [size=LINES] [span=RANKS] -- IMAGE..
-      the parameter sets of RAID 10 that pass: near2, where LIST is not given
+      the layouts of RAID 10 that pass: near2, if LIST is not given
       reraid mirrors chunks=128 offsets=2048 -- a.img b.img c.img d.img
   mirrorwrite set=NEARSET [end=END] -- IMAGE..  > VOLUME
-      the volume of such a set
+      the volume of such a layout
       reraid mirrorwrite set=near2:128:2048:0,1 -- a.img b.img > volume
   salvage set=SET [form=FORM] [end=END] -- IMAGE..  < MAPS
       the volume of images that could not be read everywhere, by the maps of
@@ -63,19 +63,19 @@ of its disks. It only reads the images. Operands come in any order.
 
 Exit status; each but 0 comes with a line on standard error:
    0  the answer was printed, whole
-   1  a word is refused
+   1  an argument is refused
    2  the plan is not understood from a line on
-   3  the plan, the list of sets or the maps are longer than 4194304 bytes
+   3  the plan, the list of layouts or the maps are longer than 4194304 bytes
    4  the images are not those that the plan or the command takes
-   5  there are 2^64 parameter sets or more
+   5  there are 2^64 layouts or more
    6  the first rank is past the total
-   7  the set or the slot breaks a rule
+   7  the layout or the slot breaks a rule
    8  the sector is past the end of the volume
    9  the maps are not understood from a line on
   10  an image could not be opened or read
   11  standard input could not be read
   12  standard output could not be written
-  13  the list of sets is not understood from a line on
+  13  the list of layouts is not understood from a line on
   20  out of memory
 
 The manual: reraid(1), and USING.md, FORMATS.md and more in share/doc/reraid.
@@ -100,19 +100,19 @@ usage: reraid-nbd set=SET [maps=FILE] [end=END] -- IMAGE..
        reraid-nbd --help
        reraid-nbd --version
 
-Shows the volume of a set as a network block device (NBD), for reading alone,
-over standard input and output, or to all that connect to the socket that a
-client hands to it (LISTEN_FDS). It only reads the images.
+Serves the volume of a layout as a read-only network block device (NBD). It
+serves one client over standard input and output. If a socket is handed to it
+(LISTEN_FDS), it serves all clients that connect. It only reads the images.
 
-  set=SET    a set word of reraid list, LEVEL:PATTERN:ORDER:CHUNK:OFFSET:SLOTS,
-             or of reraid mirrors, LAYOUT:CHUNK:OFFSET:SLOTS; chunk and offset
-             in sectors of 512 bytes; in each slot the number of its image, from
-             0 in the order of the names, or - for a lost disk
-  maps=FILE  the maps of ddrescue as one text, as reraid salvage takes them:
-             what they call bad is found by parity, or in another copy of a
-             mirror; what neither has cannot be read
-  end=END    the image sector after the last that may belong to the array; the
-             shortest length, if not given
+  set=SET    a layout of reraid list, LEVEL:PATTERN:ORDER:CHUNK:OFFSET:SLOTS, or
+             of reraid mirrors, LAYOUT:CHUNK:OFFSET:SLOTS. Chunk and offset are
+             in sectors of 512 bytes. A slot is the number of its image, from 0
+             in the order of the names, or - for a missing disk.
+  maps=FILE  the maps of ddrescue in one file, as reraid salvage takes them.
+             Bad areas are solved by parity or read from another copy. What
+             neither gives cannot be read.
+  end=END    the image sector after the last that may belong to the array; if it
+             is not given, the length of the shortest image
   --         what follows are images
 
 A copy of the volume:
@@ -120,10 +120,10 @@ A copy of the volume:
 
 Exit status; each but 0 comes with a line on standard error:
    0  the client ended the dialogue
-   1  a word is refused
+   1  an argument is refused
    3  the maps are too long
-   4  the images are not those that the set takes
-   7  the set breaks a rule
+   4  the images are not those that the layout takes
+   7  the layout breaks a rule
    9  the maps are no such text from a line on
   10  an image could not be opened
   11  standard input could not be read

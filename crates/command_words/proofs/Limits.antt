@@ -20,7 +20,7 @@ use Rattle.raid_params.specs.Places.{level_place, pattern_place, syndrome_place,
 use Rattle.landmark_rules.specs.Tests.{AreTests}
 use Rattle.search_scope.specs.Scopes.{AreBounds}
 use Rattle.command_words.specs.Commands.{AreAsked, AreRelations, IsCommandLine, IsWithin, SaysAlone, bounds_of, can_move, chunks_or, command_of, delays_or, drops_or, each_or, kinds_or, large_or, layouts_or, levels_or, members_or, mirror_in, mirrors_of, number_in, number_or, offsets_or, patterns_or, places_or, plain_survey, relations_of, sectors_or, set_in, survey_of, syndromes_or, tests_of, unit_of}
-use Rattle.mark_kinds.proofs.Asked.{among_some}
+use Rattle.mark_kinds.proofs.Places.{among_some}
 use Rattle.mark_kinds.specs.Table.{group_place, some_asked}
 use Rattle.command_words.specs.Operands.{AreDrops, AreFitting, AreLayouts, IsFitting, IsValueOf, kind_of, layout_place, value_of}
 use Rattle.command_words.specs.declared.command.Command.{Command}

@@ -22,13 +22,13 @@ use Rattle.near_mirror.specs.declared.types.CopyLayout.{CopyLayout}
 use Rattle.value_text.proofs.Offsets.{numbers_join}
 use Rattle.value_text.proofs.Spellings.{same_joined, same_list}
 use Rattle.raid_params.specs.Places.{level_place, pattern_place, syndrome_place}
-use Rattle.mark_kinds.specs.declared.looking.DropAt.{DropAt}
+use Rattle.mark_kinds.specs.declared.table.DropAt.{DropAt}
 use Rattle.mark_kinds.specs.Table.{group_place}
 use Rattle.command_words.specs.Operands.{IsOperand, IsValueOf, form_text, kind_of, layout_place, logical_text, marks_text, mode_text, name_text, operand_word, operands_of, salvaged_text, value_text}
 use Rattle.command_words.specs.declared.command.Form.{Form}
 use Rattle.command_words.specs.declared.command.Form.TheVariants.{Text, Json}
 use Rattle.command_words.specs.declared.command.Verb.{Verb}
-use Rattle.mark_kinds.specs.declared.groups.GroupKind.{GroupKind}
+use Rattle.mark_kinds.specs.declared.table.GroupKind.{GroupKind}
 use Rattle.command_words.specs.declared.operands.Operand.{Operand}
 use Rattle.command_words.specs.declared.table.Name.{Name}
 use Rattle.command_words.specs.declared.table.ValueKind.{ValueKind}

@@ -23,8 +23,8 @@ use Rattle.value_text.specs.Bounded.{AreChunks, AreMembers, ArePlaces, AreSector
 use Rattle.value_text.specs.SetText.{HasWord}
 use Rattle.landmark_rules.specs.Tests.{AreTests}
 use Rattle.search_scope.specs.Scopes.{AreBounds}
-use Rattle.mark_kinds.specs.declared.looking.DropAt.{DropAt}
-use Rattle.mark_kinds.specs.declared.looking.Kinds.{Kinds}
+use Rattle.mark_kinds.specs.declared.table.DropAt.{DropAt}
+use Rattle.mark_kinds.specs.declared.table.Kinds.{Kinds}
 use Rattle.mark_kinds.specs.Table.{usual_kinds, kinds_among, some_asked}
 use Rattle.command_words.specs.Operands.{AreDrops, AreLayouts, AreOperands, operand_word, value_of}
 use Rattle.command_words.specs.declared.command.Command.{Command}

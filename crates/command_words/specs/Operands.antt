@@ -21,14 +21,14 @@ use Rattle.value_text.specs.Bounded.{AreChunks, AreDelays, AreMembers, ArePlaces
 use Rattle.value_text.specs.Spelling.{level_name, pattern_name, syndrome_name, commas, pluses}
 use Rattle.landmark_text.specs.Names.{IsDrop, group_name, drop_name, drop_place}
 use Rattle.raid_params.specs.Places.{level_place, pattern_place, syndrome_place, AreRising}
-use Rattle.mark_kinds.specs.declared.looking.DropAt.{DropAt}
+use Rattle.mark_kinds.specs.declared.table.DropAt.{DropAt}
 use Rattle.mark_kinds.specs.Table.{group_place}
-use Rattle.mark_kinds.specs.declared.groups.TheConstants.{GROUP_COUNT}
+use Rattle.mark_kinds.specs.declared.table.TheConstants.{GROUP_COUNT}
 use Rattle.command_words.specs.declared.command.Form.{Form}
 use Rattle.command_words.specs.declared.command.Form.TheVariants.{Text, Json}
 use Rattle.command_words.specs.declared.command.Verb.{Verb}
 use Rattle.command_words.specs.declared.command.Verb.TheVariants.{Survey, List as ListVerb, Check, Map, Write, Rebuild, Sample, Classes, Mirrors, MirrorWrite, Salvage, Relations}
-use Rattle.mark_kinds.specs.declared.groups.GroupKind.{GroupKind}
+use Rattle.mark_kinds.specs.declared.table.GroupKind.{GroupKind}
 use Rattle.command_words.specs.declared.operands.Operand.{Operand}
 use Rattle.command_words.specs.declared.table.Name.{Name}
 use Rattle.command_words.specs.declared.table.Name.TheVariants.{Levels as LevelsName, Members as MembersName, Patterns as PatternsName, Delays as DelaysName, Syndromes as SyndromesName, Chunks as ChunksName, Offsets as OffsetsName, Origins as OriginsName, Missing as MissingName, Foreign as ForeignName, Badrows as BadrowsName, Misfits as MisfitsName, Least as LeastName, Window as WindowName, End as EndName, Kinds as KindsName, Dropped as DropName, From as FromName, Size as SizeName, Span as SpanName, Pages as PagesName, Form as FormName, Set as SetName, Sector as SectorName, Slot as SlotName, Number as NumberName, Rows as RowsName, Marks as MarksName, Images as ImagesName, Mode as ModeName, Logical as LogicalName, Step as StepName, Layouts as LayoutsName}

@@ -12,10 +12,10 @@ use Rattle.landmark_rules.specs.declared.marks.Group.{Group}
 use Rattle.landmark_rules.specs.declared.marks.Mark.{Mark}
 use Rattle.landmark_rules.specs.declared.marks.MarkBounds.{MarkBounds}
 use Rattle.landmark_rules.specs.declared.marks.MarkTests.{MarkTests}
-use Rattle.mark_kinds.specs.declared.groups.Begin.{Begin}
-use Rattle.mark_kinds.specs.declared.groups.Begin.TheVariants.{WithVolume, AtOrigins}
-use Rattle.mark_kinds.specs.declared.groups.GroupKind.{GroupKind}
-use Rattle.mark_kinds.specs.declared.sectors.Kind.{Kind}
+use Rattle.mark_kinds.specs.declared.table.Begin.{Begin}
+use Rattle.mark_kinds.specs.declared.table.Begin.TheVariants.{WithVolume, AtOrigins}
+use Rattle.mark_kinds.specs.declared.table.GroupKind.{GroupKind}
+use Rattle.mark_kinds.specs.declared.table.Kind.{Kind}
 use Rattle.mark_kinds.specs.Table.{group_row}
 pub use Rattle.mark_kinds.specs.Table.{group_of, group_place, kind_place, most_groups}
 

@@ -1,9 +1,9 @@
 -- All kinds stand in the lists of them.
 use Rattle.std.proofs.Common.{◌≡◌, ◌≢◌, ℕ, List, All, Option, None, Some, MatchOption}
-use Rattle.mark_kinds.specs.declared.groups.GroupKind.{GroupKind}
-use Rattle.mark_kinds.specs.declared.groups.TheConstants.{GROUPS}
-use Rattle.mark_kinds.specs.declared.sectors.Kind.{Kind}
-use Rattle.mark_kinds.specs.declared.sectors.TheConstants.{KINDS}
+use Rattle.mark_kinds.specs.declared.table.GroupKind.{GroupKind}
+use Rattle.mark_kinds.specs.declared.table.TheConstants.{GROUPS}
+use Rattle.mark_kinds.specs.declared.table.Kind.{Kind}
+use Rattle.mark_kinds.specs.declared.table.TheConstants.{KINDS}
 use Rattle.mark_kinds.proofs.Places.{each_group, each_kind}
 use Rattle.landmark_text.specs.Names.{group_name, kind_name}
 

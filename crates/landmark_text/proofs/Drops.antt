@@ -2,7 +2,7 @@
 use Rattle.std.proofs.Common.{◌≡◌, ◌≢◌, ℕ, ◌<◌, ◌^◌, List, [], ◌∷◌, ◌++◌, All, refl, sym, ◌∙◌, arith, decimal, subst}
 use Rattle.std.proofs.lemmas.Fmt.{decimal_injective}
 use Rattle.std.proofs.lemmas.List.Elements.{All-head, All-tail}
-use Rattle.mark_kinds.specs.declared.looking.DropAt.{DropAt}
+use Rattle.mark_kinds.specs.declared.table.DropAt.{DropAt}
 use Rattle.landmark_text.specs.DropLaws.{cut_once, decimal_has_no_colon}
 use Rattle.landmark_text.specs.Names.{IsDrop, drop_name}
 

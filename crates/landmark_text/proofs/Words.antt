@@ -3,10 +3,10 @@ use Rattle.std.proofs.Common.{◌≡◌, ◌≢◌, ◌≤◌, ◌∙◌, ℕ, L
 use Rattle.std.proofs.lemmas.List.{length-map}
 use Rattle.std.proofs.lemmas.List.Elements.{All-nil, All-cons, All-head, All-tail}
 use Rattle.mark_kinds.specs.Table.{group_place}
-use Rattle.mark_kinds.specs.declared.groups.GroupKind.{GroupKind}
-use Rattle.mark_kinds.specs.declared.groups.TheConstants.{GROUP_COUNT}
-use Rattle.mark_kinds.specs.declared.looking.DropAt.{DropAt}
-use Rattle.mark_kinds.specs.declared.looking.TheConstants.{MOST_DROPS}
+use Rattle.mark_kinds.specs.declared.table.GroupKind.{GroupKind}
+use Rattle.mark_kinds.specs.declared.table.TheConstants.{GROUP_COUNT}
+use Rattle.mark_kinds.specs.declared.table.DropAt.{DropAt}
+use Rattle.mark_kinds.specs.declared.table.TheConstants.{MOST_DROPS}
 use Rattle.raid_params.specs.Places.{AreRising}
 use Rattle.value_text.specs.Spelling.{commas}
 use Rattle.landmark_text.specs.Names.{IsDrop, drop_name, drop_place, group_name}

@@ -3,7 +3,7 @@
 use Rattle.std.proofs.Common.{◌≡◌, ◌≢◌, ◌<◌, ◌^◌, ℕ, List, [], ◌∷◌, ◌++◌, All, decimal, refl, ap₂, arith}
 use Rattle.std.proofs.lemmas.Fmt.{decimal_injective}
 use Rattle.std.proofs.lemmas.List.Elements.{All-head, All-tail, All-cons, All-append}
-use Rattle.mark_kinds.specs.declared.looking.DropAt.{DropAt}
+use Rattle.mark_kinds.specs.declared.table.DropAt.{DropAt}
 use Rattle.value_text.specs.NameLaws.{number_law, without_separator}
 use Rattle.value_text.specs.Spelling.{IsSpelling}
 use Rattle.landmark_text.specs.Names.{IsDrop, drop_name}

@@ -1,10 +1,10 @@
 -- How kinds of landmarks, and sectors that are passed over, are spelled in the texts of reraid.
 use Rattle.std.specs.Prelude.{ℕ, ◌<◌, ◌^◌, ◌+◌, ◌*◌, List, ◌∷◌, ◌++◌, decimal}
 use Rattle.raid_params.specs.declared.limits.TheConstants.{MOST}
-use Rattle.mark_kinds.specs.declared.groups.GroupKind.{GroupKind}
-use Rattle.mark_kinds.specs.declared.sectors.Kind.{Kind}
+use Rattle.mark_kinds.specs.declared.table.GroupKind.{GroupKind}
+use Rattle.mark_kinds.specs.declared.table.Kind.{Kind}
 use Rattle.mark_kinds.specs.Table.{group_row, kind_row}
-use Rattle.mark_kinds.specs.declared.looking.DropAt.{DropAt}
+use Rattle.mark_kinds.specs.declared.table.DropAt.{DropAt}
 
 abbrev pub group_name : GroupKind → List ℕ
 group_name kind = (group_row kind).name

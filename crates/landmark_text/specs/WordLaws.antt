@@ -1,8 +1,8 @@
 -- Proofs that each word of a list has a name of its own, without a comma. The implementations of `Spelled` give them as their
 -- law, which may cite `specs` alone.
 use Rattle.std.proofs.Common.{◌≡◌, ap}
-use Rattle.mark_kinds.specs.declared.groups.GroupKind.{GroupKind}
-use Rattle.mark_kinds.specs.declared.looking.DropAt.{DropAt}
+use Rattle.mark_kinds.specs.declared.table.GroupKind.{GroupKind}
+use Rattle.mark_kinds.specs.declared.table.DropAt.{DropAt}
 use Rattle.value_text.specs.NameLaws.{in_lists}
 use Rattle.value_text.specs.Spelling.{IsSpelling}
 use Rattle.landmark_text.specs.DropLaws.{drop_law}

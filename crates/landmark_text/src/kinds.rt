@@ -1,7 +1,7 @@
 //! The names of the kinds of landmark sectors and of groups.
 ghost use Rattle.std.specs.Prelude.{◌≡◌, ◌≢◌, ◌∷◌, ◌++◌, ℕ, List, All, IsTrue, MatchOption};
-ghost use Rattle.mark_kinds.specs.declared.groups.GroupKind.{GroupKind as GroupKindOf};
-ghost use Rattle.mark_kinds.specs.declared.sectors.Kind.{Kind as KindOf};
+ghost use Rattle.mark_kinds.specs.declared.table.GroupKind.{GroupKind as GroupKindOf};
+ghost use Rattle.mark_kinds.specs.declared.table.Kind.{Kind as KindOf};
 ghost use Rattle.value_text.specs.Spelling.{is_separator};
 ghost use Rattle.landmark_text.specs.Names.{group_name as group_spelling, kind_name};
 

@@ -1,8 +1,8 @@
 //! Lists of kinds of groups, and of sectors that are passed over.
 ghost use Rattle.std.specs.Prelude.{◌≡◌, ◌≢◌, ◌≤◌, List, All, length, map, MatchOption};
 ghost use Rattle.mark_kinds.specs.Table.{group_place};
-ghost use Rattle.mark_kinds.specs.declared.groups.GroupKind.{GroupKind as GroupKindOf};
-ghost use Rattle.mark_kinds.specs.declared.looking.DropAt.{DropAt as DropAtOf};
+ghost use Rattle.mark_kinds.specs.declared.table.GroupKind.{GroupKind as GroupKindOf};
+ghost use Rattle.mark_kinds.specs.declared.table.DropAt.{DropAt as DropAtOf};
 ghost use Rattle.raid_params.specs.Places.{AreRising};
 ghost use Rattle.value_text.specs.Spelling.{commas};
 ghost use Rattle.landmark_text.specs.WordLaws.{drop_word_law, group_word_law};

@@ -4,8 +4,8 @@ use Rattle.std.specs.Prelude.{count_by, ◌==◌}
 use Rattle.std.proofs.lemmas.Bool.Decides.{nat_tests}
 use Rattle.std.proofs.lemmas.List.Sums.{sum_by-cons}
 use Rattle.mark_kinds.specs.Table.{kind_place}
-use Rattle.mark_kinds.specs.declared.sectors.Kind.{Kind}
-use Rattle.mark_kinds.specs.declared.sectors.TheConstants.{KIND_COUNT}
+use Rattle.mark_kinds.specs.declared.table.Kind.{Kind}
+use Rattle.mark_kinds.specs.declared.table.TheConstants.{KIND_COUNT}
 use Rattle.mark_kinds.proofs.Places.{kind_back_at, kind_below}
 
 abbrev at : {A : Type 0} → (A → Kind) → ℕ → A → Bool

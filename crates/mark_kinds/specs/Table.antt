@@ -1,13 +1,13 @@
 -- The table of the kinds of landmarks.
 use Rattle.std.specs.Prelude.{ℕ, Bool, true, false, ◌==◌, List, [], ◌∷◌, codes}
 use Rattle.std.specs.List.{list_any}
-use Rattle.mark_kinds.specs.declared.groups.Begin.{Begin}
-use Rattle.mark_kinds.specs.declared.groups.Begin.TheVariants.{WithVolume, AtOrigins}
-use Rattle.mark_kinds.specs.declared.groups.GroupKind.{GroupKind}
-use Rattle.mark_kinds.specs.declared.groups.GroupKind.TheVariants.{Gpt as GptGroup, Ntfs, Xfs, Btrfs as BtrfsGroup, Lvm as LvmGroup, Ext as ExtGroup, Extinode as ExtinodeGroup, Xfs5 as Xfs5Group, Btrfstree as BtrfstreeGroup, Mft as MftGroup}
-use Rattle.mark_kinds.specs.declared.looking.Kinds.{Kinds}
-use Rattle.mark_kinds.specs.declared.sectors.Kind.{Kind}
-use Rattle.mark_kinds.specs.declared.sectors.Kind.TheVariants.{Gpt, Boot, FileRecord, Super, Agf, Agi, Btrfs, Lvm, Ext, Extinode, Xfs5, Btrfstree, Mft}
+use Rattle.mark_kinds.specs.declared.table.Begin.{Begin}
+use Rattle.mark_kinds.specs.declared.table.Begin.TheVariants.{WithVolume, AtOrigins}
+use Rattle.mark_kinds.specs.declared.table.GroupKind.{GroupKind}
+use Rattle.mark_kinds.specs.declared.table.GroupKind.TheVariants.{Gpt as GptGroup, Ntfs, Xfs, Btrfs as BtrfsGroup, Lvm as LvmGroup, Ext as ExtGroup, Extinode as ExtinodeGroup, Xfs5 as Xfs5Group, Btrfstree as BtrfstreeGroup, Mft as MftGroup}
+use Rattle.mark_kinds.specs.declared.table.Kinds.{Kinds}
+use Rattle.mark_kinds.specs.declared.table.Kind.{Kind}
+use Rattle.mark_kinds.specs.declared.table.Kind.TheVariants.{Gpt, Boot, FileRecord, Super, Agf, Agi, Btrfs, Lvm, Ext, Extinode, Xfs5, Btrfstree, Mft}
 
 -- what holds of all groups of a kind: its place among the kinds of groups, which is the order in which groups stand
 -- in plans, its name, where such groups begin on the volume, and how many of them a plan may have

@@ -9,10 +9,9 @@
 //! The table stands in `specs/Table`, as contracts see it.
 #![tactic(auto)]
 
-mod groups;
-mod looking;
-mod sectors;
+mod table;
 
-pub use groups::{Begin, GROUP_COUNT, GROUPS, GroupKind, GroupRow, MOST_GROUPS};
-pub use looking::{DropAt, Kinds, MOST_DROPS};
-pub use sectors::{KIND_COUNT, KINDS, Kind, KindRow};
+pub use table::{
+    Begin, DropAt, GROUP_COUNT, GROUPS, GroupKind, GroupRow, KIND_COUNT, KINDS, Kind, KindRow,
+    Kinds, MOST_DROPS, MOST_GROUPS,
+};

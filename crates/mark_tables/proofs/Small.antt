@@ -6,7 +6,7 @@ use Rattle.mark_kinds.proofs.Counts.{few_in_all}
 use Rattle.raid_params.specs.declared.limits.TheConstants.{MOST}
 use Rattle.landmark_rules.specs.Groups.{AreGroups, kind_place, marks_in}
 use Rattle.landmark_rules.specs.declared.marks.Group.{Group}
-use Rattle.mark_kinds.specs.declared.sectors.Kind.{Kind}
+use Rattle.mark_kinds.specs.declared.table.Kind.{Kind}
 use Rattle.landmark_rules.specs.declared.marks.Mark.{Mark}
 
 -- the marks of a group are among all

@@ -1,7 +1,7 @@
 -- An entry stands on one line.
 use Rattle.std.proofs.Common.{◌≢◌, ◌<◌, ◌^◌, ℕ, List, ◌∷◌, ◌++◌, codes, decimal, refl, arith}
 use Rattle.std.proofs.lemmas.List.Elements.{All-cons, All-append}
-use Rattle.mark_kinds.specs.declared.groups.GroupKind.{GroupKind}
+use Rattle.mark_kinds.specs.declared.table.GroupKind.{GroupKind}
 use Rattle.landmark_rules.specs.declared.marks.Mark.{Mark}
 use Rattle.landmark_rules.specs.declared.marks.MarkBounds.{MarkBounds}
 use Rattle.landmark_rules.specs.Groups.{AreMarkBounds}

@@ -5,8 +5,8 @@ use Rattle.std.specs.Fmt.{digits}
 use Rattle.raid_params.specs.declared.types.Level.TheVariants.{Raid5}
 use Rattle.raid_params.specs.declared.types.Pattern.TheVariants.{Ls}
 use Rattle.raid_params.specs.declared.types.Syndrome.TheVariants.{NoQ}
-use Rattle.mark_kinds.specs.declared.sectors.Kind.TheVariants.{Super, Agf}
-use Rattle.mark_kinds.specs.declared.groups.GroupKind.TheVariants.{Xfs}
+use Rattle.mark_kinds.specs.declared.table.Kind.TheVariants.{Super, Agf}
+use Rattle.mark_kinds.specs.declared.table.GroupKind.TheVariants.{Xfs}
 use Rattle.landmark_rules.specs.declared.marks.Rule.TheVariants.{At, Every}
 use Rattle.search_plan.specs.declared.plan.Plan.{Plan}
 use Rattle.plan_text.specs.PlanText.{plan_text}

@@ -4,7 +4,7 @@ use Rattle.std.specs.List.{flat_map}
 use Rattle.std.proofs.lemmas.List.{append_cancel_left}
 use Rattle.std.proofs.lemmas.List.Elements.{All-head, All-tail}
 use Rattle.landmark_rules.specs.declared.marks.Group.{Group}
-use Rattle.mark_kinds.specs.declared.groups.GroupKind.{GroupKind}
+use Rattle.mark_kinds.specs.declared.table.GroupKind.{GroupKind}
 use Rattle.landmark_rules.specs.declared.marks.Mark.{Mark}
 use Rattle.landmark_rules.specs.declared.marks.MarkBounds.{MarkBounds}
 use Rattle.landmark_rules.specs.Groups.{AreMarkBounds}

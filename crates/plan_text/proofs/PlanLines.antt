@@ -5,7 +5,7 @@ use Rattle.std.proofs.lemmas.List.{append_cancel_left}
 use Rattle.std.proofs.lemmas.List.Elements.{All-head, All-tail, All-nil, All-cons}
 use Rattle.landmark_rules.specs.declared.marks.Group.{Group}
 use Rattle.landmark_rules.specs.Groups.{AreGroups}
-use Rattle.mark_kinds.specs.declared.groups.GroupKind.TheVariants.{Gpt as GptGroup}
+use Rattle.mark_kinds.specs.declared.table.GroupKind.TheVariants.{Gpt as GptGroup}
 use Rattle.search_plan.specs.declared.plan.Plan.{Plan}
 use Rattle.search_plan.specs.Plans.{AreLengths, IsPlan}
 use Rattle.plan_text.specs.declared.parts.Search.{Search}

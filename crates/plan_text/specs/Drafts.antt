@@ -3,13 +3,13 @@ use Rattle.std.specs.Prelude.{ℕ, Bool, true, ◌≡◌, ◌^◌, ◌<◌, ◌�
 use Rattle.std.specs.declared.option.Option.{Option}
 use Rattle.std.specs.declared.option.Option.TheVariants.{None, Some}
 use Rattle.landmark_rules.specs.declared.marks.Group.{Group}
-use Rattle.mark_kinds.specs.declared.groups.GroupKind.{GroupKind}
+use Rattle.mark_kinds.specs.declared.table.GroupKind.{GroupKind}
 use Rattle.landmark_rules.specs.declared.marks.Mark.{Mark}
 use Rattle.landmark_rules.specs.declared.marks.MarkBounds.{MarkBounds}
 use Rattle.landmark_rules.specs.Groups.{AreGroups, AreMarkBounds, IsMark, group_place, kind_place, marks_in, most_groups}
 use Rattle.landmark_rules.specs.Rules.{IsRule}
-use Rattle.mark_kinds.specs.declared.groups.TheConstants.{GROUP_COUNT}
-use Rattle.mark_kinds.specs.declared.sectors.TheConstants.{KIND_COUNT}
+use Rattle.mark_kinds.specs.declared.table.TheConstants.{GROUP_COUNT}
+use Rattle.mark_kinds.specs.declared.table.TheConstants.{KIND_COUNT}
 use Rattle.plan_text.specs.declared.draft.Draft.{Draft}
 use Rattle.plan_text.specs.declared.entry.Entry.{Entry}
 use Rattle.plan_text.specs.declared.entry.Entry.TheVariants.{Bounds as BoundsEntry, Done, Group as GroupEntry, Mark as MarkEntry}

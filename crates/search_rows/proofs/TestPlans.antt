@@ -10,10 +10,10 @@ use Rattle.std.proofs.lemmas.List.Elements.{All-cons, All-nil}
 use Rattle.std.proofs.lemmas.List.Sorted.{IsNonDecreasingBy-short}
 use Rattle.landmark_rules.specs.Groups.{AreGroups, AreMarkBounds, IsMark, group_place, kind_place, mark_place, marks_in, most_groups}
 use Rattle.landmark_rules.specs.declared.marks.Group.{Group}
-use Rattle.mark_kinds.specs.declared.groups.GroupKind.{GroupKind}
-use Rattle.mark_kinds.specs.declared.groups.GroupKind.TheVariants.{Gpt as GptGroup, Ntfs, Xfs, Btrfs, Lvm, Ext, Extinode, Xfs5, Btrfstree, Mft}
-use Rattle.mark_kinds.specs.declared.sectors.Kind.{Kind}
-use Rattle.mark_kinds.specs.declared.sectors.Kind.TheVariants.{Gpt, Boot, FileRecord, Super, Agf, Agi, Btrfs as BtrfsMark, Lvm as LvmMark, Ext as ExtMark, Extinode as ExtinodeMark, Xfs5 as Xfs5Mark, Btrfstree as BtrfstreeMark, Mft as MftMark}
+use Rattle.mark_kinds.specs.declared.table.GroupKind.{GroupKind}
+use Rattle.mark_kinds.specs.declared.table.GroupKind.TheVariants.{Gpt as GptGroup, Ntfs, Xfs, Btrfs, Lvm, Ext, Extinode, Xfs5, Btrfstree, Mft}
+use Rattle.mark_kinds.specs.declared.table.Kind.{Kind}
+use Rattle.mark_kinds.specs.declared.table.Kind.TheVariants.{Gpt, Boot, FileRecord, Super, Agf, Agi, Btrfs as BtrfsMark, Lvm as LvmMark, Ext as ExtMark, Extinode as ExtinodeMark, Xfs5 as Xfs5Mark, Btrfstree as BtrfstreeMark, Mft as MftMark}
 use Rattle.std.specs.Prelude.{◌==◌, IfSome, IsSomeAnd, count_by}
 use Rattle.landmark_rules.specs.declared.limits.TheConstants.{MOST_MARKS, MOST_ORIGINS}
 use Rattle.raid_params.specs.declared.limits.TheConstants.{LONGEST_DELAY, MOST, MOST_DELAYS, MOST_MISSING, MOST_OFFSETS}

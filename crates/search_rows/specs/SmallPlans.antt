@@ -4,8 +4,8 @@ use Rattle.std.specs.declared.option.Option.TheVariants.{None}
 use Rattle.landmark_rules.specs.declared.marks.Group.{Group}
 use Rattle.landmark_rules.specs.declared.marks.Mark.{Mark}
 use Rattle.landmark_rules.specs.declared.marks.Rule.TheVariants.{At}
-use Rattle.mark_kinds.specs.declared.groups.GroupKind.TheVariants.{Gpt as GptGroup}
-use Rattle.mark_kinds.specs.declared.sectors.Kind.TheVariants.{Gpt}
+use Rattle.mark_kinds.specs.declared.table.GroupKind.TheVariants.{Gpt as GptGroup}
+use Rattle.mark_kinds.specs.declared.table.Kind.TheVariants.{Gpt}
 use Rattle.raid_params.specs.declared.types.Level.TheVariants.{Raid5, Raid6}
 use Rattle.raid_params.specs.declared.types.Pattern.TheVariants.{Ls}
 use Rattle.raid_params.specs.declared.types.Syndrome.TheVariants.{NoQ, AfterQ}

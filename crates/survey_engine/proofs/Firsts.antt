@@ -8,7 +8,7 @@ use Rattle.std.proofs.lemmas.Bool.Decides.{nat_tests}
 use Rattle.outside.specs.Attached.{told_all}
 use Rattle.outside.specs.Seen.{Image, AreTold, AreWithin, OnlyReads, Seen, lengths_of}
 use Rattle.outside.proofs.Reading.{reads_join, reads_up}
-use Rattle.mark_kinds.specs.declared.sectors.Kind.TheVariants.{Gpt as GptKind}
+use Rattle.mark_kinds.specs.declared.table.Kind.TheVariants.{Gpt as GptKind}
 use Rattle.std.specs.Prelude.{count_by}
 use Rattle.std.proofs.lemmas.List.Sums.{sum_by-le-sum_by, sum_by_more, sum_by-take-le}
 use Rattle.survey_engine.proofs.Reading.{told_bytes}

@@ -11,11 +11,11 @@ use Rattle.std.proofs.lemmas.List.Elements.{All-append, All-head, All-map, All-n
 use Rattle.std.proofs.lemmas.List.Sums.{sum_by-append, sum_by-cons}
 use Rattle.landmark_rules.specs.Groups.{mark_place, marks_in, AreGroups, AreMarkBounds, IsMark}
 use Rattle.mark_kinds.specs.Table.{all_groups, group_of, group_place, is_group_asked, kind_place, most_groups}
-use Rattle.mark_kinds.specs.declared.looking.Kinds.{Kinds}
+use Rattle.mark_kinds.specs.declared.table.Kinds.{Kinds}
 use Rattle.mark_kinds.proofs.Places.{same_group, same_kind}
 use Rattle.landmark_rules.specs.declared.marks.Group.{Group}
-use Rattle.mark_kinds.specs.declared.groups.GroupKind.{GroupKind}
-use Rattle.mark_kinds.specs.declared.sectors.Kind.{Kind}
+use Rattle.mark_kinds.specs.declared.table.GroupKind.{GroupKind}
+use Rattle.mark_kinds.specs.declared.table.Kind.{Kind}
 use Rattle.landmark_rules.specs.declared.marks.Mark.{Mark}
 use Rattle.survey_engine.specs.Landmarks.{IsSound}
 use Rattle.survey_engine.specs.Owners.{group_for, group_kind, groups_asked, groups_in, groups_of, mark_in, owners_of, IsSoundOwner}

@@ -12,7 +12,7 @@ use Rattle.std.proofs.lemmas.List.Sums.{sum_by-cons}
 use Rattle.btrfstree.specs.declared.header.TreeBlock.{TreeBlock}
 use Rattle.btrfstree.specs.Whole.{is_whole}
 use Rattle.mark_kinds.specs.Table.{kind_place}
-use Rattle.mark_kinds.specs.declared.sectors.Kind.{Kind}
+use Rattle.mark_kinds.specs.declared.table.Kind.{Kind}
 use Rattle.outside.specs.Attached.{told_all}
 use Rattle.outside.specs.Seen.{AreTold, AreWithin, Image, lengths_of}
 use Rattle.survey_engine.proofs.Firsts.{image_there}

@@ -17,8 +17,8 @@ use Rattle.ext_marks.specs.declared.copy.ExtSuper.{ExtSuper}
 use Rattle.xfs5.specs.Places.{inode_sector}
 use Rattle.xfs5.specs.declared.places.XfsInodes.{XfsInodes}
 use Rattle.landmark_rules.specs.Groups.{kind_place}
-use Rattle.mark_kinds.specs.declared.groups.GroupKind.{GroupKind}
-use Rattle.mark_kinds.specs.declared.sectors.Kind.{Kind}
+use Rattle.mark_kinds.specs.declared.table.GroupKind.{GroupKind}
+use Rattle.mark_kinds.specs.declared.table.Kind.{Kind}
 use Rattle.landmark_rules.specs.declared.marks.Mark.{Mark}
 use Rattle.landmark_rules.specs.declared.marks.Rule.{Rule}
 use Rattle.landmark_rules.specs.declared.marks.Rule.TheVariants.{At, Either, Every}

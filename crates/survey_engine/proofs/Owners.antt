@@ -14,7 +14,7 @@ use Rattle.ntfs_marks.specs.declared.boot.NtfsBoot.{NtfsBoot}
 use Rattle.xfs_marks.specs.declared.superblock.XfsSuper.{XfsSuper}
 use Rattle.xfs5.specs.declared.places.XfsInodes.{XfsInodes}
 use Rattle.landmark_rules.specs.Groups.{group_place, most_groups}
-use Rattle.mark_kinds.specs.declared.groups.GroupKind.{GroupKind}
+use Rattle.mark_kinds.specs.declared.table.GroupKind.{GroupKind}
 use Rattle.survey_engine.proofs.Kept.{kept_each, kept_keeps, mapped_each}
 use Rattle.survey_engine.proofs.Stated.{system_is, systems_sound, AreSoundPlaces}
 use Rattle.survey_engine.specs.Systems.{system_with, systems_of}

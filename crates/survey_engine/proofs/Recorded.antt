@@ -11,7 +11,7 @@ use Rattle.mft_survey.specs.Marks.{marks_by}
 use Rattle.mft_survey.specs.declared.marks.RecordMark.{RecordMark}
 use Rattle.mft_survey.specs.declared.records.RecordSeen.{RecordSeen}
 use Rattle.mft_survey.proofs.Marked.{same_at}
-use Rattle.mark_kinds.specs.declared.groups.GroupKind.TheVariants.{Mft as MftGroup}
+use Rattle.mark_kinds.specs.declared.table.GroupKind.TheVariants.{Mft as MftGroup}
 use Rattle.landmark_rules.specs.declared.marks.Group.{Group}
 use Rattle.landmark_rules.specs.declared.marks.Mark.{Mark}
 use Rattle.survey_engine.specs.Kept.{kept, kept_with}

@@ -16,7 +16,7 @@ use Rattle.std.proofs.lemmas.Nat.{mul-le}
 use Rattle.outside.proofs.Told.{told_all_length}
 use Rattle.survey_engine.specs.Surveys.{found_in}
 use Rattle.survey_engine.specs.Sweep.{next_of, sectors_of, Swept}
-use Rattle.mark_kinds.specs.declared.sectors.Kind.{Kind}
+use Rattle.mark_kinds.specs.declared.table.Kind.{Kind}
 use Rattle.landmark_rules.specs.Groups.{kind_place}
 use Rattle.landmark_rules.specs.declared.limits.TheConstants.{MOST_MARKS}
 use Rattle.survey_engine.specs.Blocks.{found_at, found_in_block, found_in_row}

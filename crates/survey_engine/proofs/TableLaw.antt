@@ -25,10 +25,10 @@ use Rattle.landmark_rules.specs.Rules.{IsRule}
 use Rattle.landmark_rules.specs.declared.marks.Group.{Group}
 use Rattle.landmark_rules.specs.declared.marks.Mark.{Mark}
 use Rattle.mark_kinds.specs.Table.{all_groups, group_place, is_group_asked, is_same_group, most_groups}
-use Rattle.mark_kinds.specs.declared.groups.GroupKind.{GroupKind}
-use Rattle.mark_kinds.specs.declared.groups.GroupKind.TheVariants.{Gpt as GptGroup, Ntfs as NtfsGroup, Xfs as XfsGroup, Btrfs as BtrfsGroup, Lvm as LvmGroup, Ext as ExtGroup, Extinode as ExtinodeGroup, Xfs5 as Xfs5Group, Btrfstree as BtrfstreeGroup, Mft as MftGroup}
-use Rattle.mark_kinds.specs.declared.looking.Kinds.{Kinds}
-use Rattle.mark_kinds.specs.declared.sectors.Kind.{Kind}
+use Rattle.mark_kinds.specs.declared.table.GroupKind.{GroupKind}
+use Rattle.mark_kinds.specs.declared.table.GroupKind.TheVariants.{Gpt as GptGroup, Ntfs as NtfsGroup, Xfs as XfsGroup, Btrfs as BtrfsGroup, Lvm as LvmGroup, Ext as ExtGroup, Extinode as ExtinodeGroup, Xfs5 as Xfs5Group, Btrfstree as BtrfstreeGroup, Mft as MftGroup}
+use Rattle.mark_kinds.specs.declared.table.Kinds.{Kinds}
+use Rattle.mark_kinds.specs.declared.table.Kind.{Kind}
 use Rattle.survey_engine.specs.Kept.{kept}
 use Rattle.survey_engine.specs.Landmarks.{IsSound}
 use Rattle.survey_engine.specs.Owners.{group_kind, groups_asked, groups_in, groups_of, owner_among, owner_in, owners_of}

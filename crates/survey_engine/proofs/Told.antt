@@ -6,9 +6,9 @@ use Rattle.std.specs.Option.{is_some, option_map}
 use Rattle.std.proofs.lemmas.List.{take_all}
 use Rattle.std.proofs.lemmas.List.Sums.{count_by-le-length, fold_more, sum_by-cons, sum_by-le-sum_by, sum_by-take-le, sum_by_more}
 use Rattle.mark_kinds.specs.Table.{kind_place}
-use Rattle.mark_kinds.specs.declared.looking.Kinds.{Kinds}
-use Rattle.mark_kinds.specs.declared.sectors.Kind.{Kind}
-use Rattle.mark_kinds.specs.declared.sectors.Kind.TheVariants.{Btrfstree as BtrfstreeKind, Ext as ExtKind, Gpt as GptKind, Xfs5 as Xfs5Kind, FileRecord as FileRecordKind, Mft as MftKind}
+use Rattle.mark_kinds.specs.declared.table.Kinds.{Kinds}
+use Rattle.mark_kinds.specs.declared.table.Kind.{Kind}
+use Rattle.mark_kinds.specs.declared.table.Kind.TheVariants.{Btrfstree as BtrfstreeKind, Ext as ExtKind, Gpt as GptKind, Xfs5 as Xfs5Kind, FileRecord as FileRecordKind, Mft as MftKind}
 use Rattle.outside.specs.Attached.{told_all}
 use Rattle.outside.specs.Seen.{Image, OnlyReads, Seen, lengths_of}
 use Rattle.outside.proofs.Reading.{reads_join, reads_none, reads_up}

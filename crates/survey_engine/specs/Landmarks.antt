@@ -23,9 +23,9 @@ use Rattle.mft.specs.Boot.{is_near, is_record_size, mft_boot}
 use Rattle.mft.specs.Start.{is_spread, record_start}
 use Rattle.mft.specs.declared.start.RecordStart.{RecordStart}
 use Rattle.mark_kinds.specs.Table.{group_of, is_group_asked}
-use Rattle.mark_kinds.specs.declared.looking.Kinds.{Kinds}
-use Rattle.mark_kinds.specs.declared.sectors.Kind.{Kind}
-use Rattle.mark_kinds.specs.declared.sectors.Kind.TheVariants.{Gpt as GptKind, Boot as BootKind, FileRecord as RecordKind, Super as SuperKind, Agf as AgfKind, Agi as AgiKind, Btrfs as BtrfsKind, Lvm as LvmKind, Ext as ExtKind, Extinode as ExtinodeKind, Xfs5 as Xfs5Kind, Btrfstree as BtrfstreeKind, Mft as MftKind}
+use Rattle.mark_kinds.specs.declared.table.Kinds.{Kinds}
+use Rattle.mark_kinds.specs.declared.table.Kind.{Kind}
+use Rattle.mark_kinds.specs.declared.table.Kind.TheVariants.{Gpt as GptKind, Boot as BootKind, FileRecord as RecordKind, Super as SuperKind, Agf as AgfKind, Agi as AgiKind, Btrfs as BtrfsKind, Lvm as LvmKind, Ext as ExtKind, Extinode as ExtinodeKind, Xfs5 as Xfs5Kind, Btrfstree as BtrfstreeKind, Mft as MftKind}
 use Rattle.survey_engine.specs.declared.landmark.GptTable.{GptTable}
 use Rattle.survey_engine.specs.declared.landmark.InodeSeen.{InodeSeen}
 use Rattle.survey_engine.specs.declared.landmark.Landmark.{Landmark}

@@ -13,9 +13,9 @@ use Rattle.mark_kinds.specs.Table.{all_groups, is_group_asked, is_same_group, mo
 use Rattle.landmark_rules.specs.declared.marks.Group.{Group}
 use Rattle.xfs5.specs.Places.{inode_sector, is_mark, is_sound as is_sound_place}
 use Rattle.xfs5.specs.declared.places.XfsInodes.{XfsInodes}
-use Rattle.mark_kinds.specs.declared.looking.Kinds.{Kinds}
-use Rattle.mark_kinds.specs.declared.groups.GroupKind.{GroupKind}
-use Rattle.mark_kinds.specs.declared.groups.GroupKind.TheVariants.{Gpt as GptGroup, Ntfs as NtfsGroup, Xfs as XfsGroup, Btrfs as BtrfsGroup, Lvm as LvmGroup, Ext as ExtGroup, Extinode as ExtinodeGroup, Xfs5 as Xfs5Group, Btrfstree as BtrfstreeGroup}
+use Rattle.mark_kinds.specs.declared.table.Kinds.{Kinds}
+use Rattle.mark_kinds.specs.declared.table.GroupKind.{GroupKind}
+use Rattle.mark_kinds.specs.declared.table.GroupKind.TheVariants.{Gpt as GptGroup, Ntfs as NtfsGroup, Xfs as XfsGroup, Btrfs as BtrfsGroup, Lvm as LvmGroup, Ext as ExtGroup, Extinode as ExtinodeGroup, Xfs5 as Xfs5Group, Btrfstree as BtrfstreeGroup}
 use Rattle.landmark_rules.specs.declared.marks.Mark.{Mark}
 use Rattle.landmark_rules.specs.declared.marks.Rule.{Rule}
 use Rattle.landmark_rules.specs.declared.marks.Rule.TheVariants.{At, Either, Every}

@@ -3,7 +3,7 @@ use Rattle.std.specs.Prelude.{ℕ, ◌+◌, ◌*◌, ◌<◌, ◌≤◌, All, Is
 use Rattle.std.specs.List.{filter_map, flat_map, list_any, range_with_len}
 use Rattle.raid_params.specs.declared.limits.TheConstants.{MOST}
 use Rattle.mark_kinds.specs.Table.{kind_place}
-use Rattle.mark_kinds.specs.declared.sectors.Kind.{Kind}
+use Rattle.mark_kinds.specs.declared.table.Kind.{Kind}
 use Rattle.survey_engine.specs.Kept.{kept}
 use Rattle.survey_engine.specs.Landmarks.{is_asked, kind_of, is_own, landmark_in, IsSound}
 use Rattle.survey_engine.specs.declared.ask.Ask.{Ask}

@@ -13,8 +13,8 @@ use Rattle.mft_survey.specs.Records.{is_same_boot, tables_in, whole_records}
 use Rattle.mft_survey.specs.declared.marks.RecordMark.{RecordMark}
 use Rattle.mft_survey.specs.declared.records.RecordSeen.{RecordSeen}
 use Rattle.mft_survey.specs.declared.records.Records.{Records}
-use Rattle.mark_kinds.specs.declared.groups.GroupKind.TheVariants.{Mft as MftGroup}
-use Rattle.mark_kinds.specs.declared.sectors.Kind.TheVariants.{Mft as MftKind}
+use Rattle.mark_kinds.specs.declared.table.GroupKind.TheVariants.{Mft as MftGroup}
+use Rattle.mark_kinds.specs.declared.table.Kind.TheVariants.{Mft as MftKind}
 use Rattle.landmark_rules.specs.declared.marks.Group.{Group}
 use Rattle.landmark_rules.specs.declared.marks.Mark.{Mark}
 use Rattle.landmark_rules.specs.declared.marks.Rule.{Rule}

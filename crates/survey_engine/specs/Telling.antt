@@ -11,7 +11,7 @@ use Rattle.btrfstree.specs.Chunks.{first_place, leaf_chunk, second_place}
 use Rattle.btrfstree.specs.Whole.{is_whole}
 use Rattle.btrfstree.specs.declared.header.TreeBlock.{TreeBlock}
 use Rattle.btrfstree.specs.declared.chunks.Chunk.{Chunk}
-use Rattle.mark_kinds.specs.declared.looking.Kinds.{Kinds}
+use Rattle.mark_kinds.specs.declared.table.Kinds.{Kinds}
 use Rattle.survey_engine.specs.declared.landmark.InodePlace.{InodePlace}
 use Rattle.survey_engine.specs.declared.landmark.Landmark.{Landmark}
 use Rattle.survey_engine.specs.declared.landmark.Landmark.TheVariants.{Ext, Inode, Inodes, Placed, Tree}

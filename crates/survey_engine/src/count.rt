@@ -21,7 +21,7 @@ pub struct Counter {
 impl Model for Counter {
     ghost use Rattle.std.specs.Prelude.{◌≡◌, List, count_by, slice_index};
     ghost use Rattle.landmark_rules.specs.Groups.{kind_place};
-    ghost use Rattle.mark_kinds.specs.declared.sectors.Kind.{Kind};
+    ghost use Rattle.mark_kinds.specs.declared.table.Kind.{Kind};
     ghost use Rattle.survey_engine.specs.Sightings.{is_same_kind};
     ghost use Rattle.survey_engine.specs.declared.sighting.Sighting.{Sighting};
 

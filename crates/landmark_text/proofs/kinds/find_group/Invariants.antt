@@ -1,6 +1,6 @@
 use Rattle.std.proofs.Common.{◌≢◌, ◌<◌, ℕ}
 use Rattle.std.specs.List.{slice_index_or}
-use Rattle.mark_kinds.specs.declared.groups.GroupKind.{GroupKind}
+use Rattle.mark_kinds.specs.declared.table.GroupKind.{GroupKind}
 use Rattle.landmark_text.specs.Names.{group_name}
 use Rattle.landmark_text.proofs.kinds.find_group.Given as goal
 

@@ -1,6 +1,6 @@
 use Rattle.std.proofs.Common.{◌≢◌, ◌<◌, ℕ}
 use Rattle.std.specs.List.{slice_index_or}
-use Rattle.mark_kinds.specs.declared.sectors.Kind.{Kind}
+use Rattle.mark_kinds.specs.declared.table.Kind.{Kind}
 use Rattle.landmark_text.specs.Names.{kind_name}
 use Rattle.landmark_text.proofs.kinds.find_kind.Given as goal
 

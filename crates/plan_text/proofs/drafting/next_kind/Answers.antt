@@ -3,7 +3,7 @@ use Rattle.std.specs.List.{slice_index_or}
 use Rattle.std.proofs.lemmas.Bool.{cases_lt, false≢true}
 use Rattle.std.proofs.lemmas.List.{get_or_default}
 use Rattle.plan_text.specs.Drafts.{MayBegin}
-use Rattle.mark_kinds.specs.declared.groups.GroupKind.TheVariants.{Gpt}
+use Rattle.mark_kinds.specs.declared.table.GroupKind.TheVariants.{Gpt}
 use Rattle.plan_text.proofs.drafting.next_kind.Goals as goal
 
 pub loop-kind-preserved : goal.loop-kind-preserved

@@ -1,6 +1,6 @@
 use Rattle.std.proofs.Common.{◌<◌, ℕ}
 use Rattle.std.specs.List.{slice_index_or}
-use Rattle.mark_kinds.specs.declared.groups.GroupKind.{GroupKind}
+use Rattle.mark_kinds.specs.declared.table.GroupKind.{GroupKind}
 use Rattle.plan_text.specs.Drafts.{MayBegin}
 use Rattle.plan_text.proofs.drafting.next_kind.Given as goal
 

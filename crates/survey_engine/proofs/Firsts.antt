@@ -15,15 +15,14 @@ use Rattle.survey_engine.proofs.Reading.{told_bytes}
 use Rattle.gpt_marks.specs.Entry.{first_lbas}
 use Rattle.landmark_rules.specs.declared.limits.TheConstants.{MOST_MARKS, MOST_ORIGINS}
 use Rattle.survey_engine.specs.Kept.{with_number}
-use Rattle.survey_engine.specs.Origins.{first_sector, has_entries, is_followed, entries_follow, hints_at, hints_by, origins_of, with_numbers}
-use Rattle.survey_engine.specs.Sightings.{is_same_kind, sector_of}
+use Rattle.survey_engine.specs.Origins.{first_sector, has_entries, headers_of, is_followed, entries_follow, hints_at, hints_by, origins_of, with_numbers}
+use Rattle.survey_engine.specs.Sightings.{is_same_kind, sector_of, AreSightings}
 use Rattle.survey_engine.specs.Surveys.{entries_read, found_in}
 use Rattle.survey_engine.specs.declared.ask.Ask.{Ask}
-use Rattle.survey_engine.specs.Landmarks.{kind_of}
-use Rattle.landmark_rules.specs.Groups.{kind_place}
 use Rattle.survey_engine.specs.declared.landmark.GptTable.{GptTable}
+use Rattle.survey_engine.proofs.Marks.{followed_few, not_gpt}
 use Rattle.survey_engine.specs.declared.landmark.Landmark.{Landmark}
-use Rattle.survey_engine.specs.declared.landmark.Landmark.TheVariants.{Gpt, Boot, FileRecord, Super, Super5, Agf, Agi, Btrfs, Lvm, Ext, Inode, Tree, Inodes, Placed, Record, Volume}
+use Rattle.survey_engine.specs.declared.landmark.Landmark.TheVariants.{Gpt}
 use Rattle.survey_engine.specs.declared.sighting.Sighting.{Sighting}
 use Rattle.survey_engine.proofs.Numbers.{with_more, with_none}
 
@@ -61,24 +60,6 @@ near_at firsts i n all below some =
     rw some at here
 
 -- ---- of a sighting
-
-not_gpt : (l : Landmark) (sector long : ℕ) (bytes : List ℕ) → ((h : GptTable) → l ≡ Gpt h → ⊥) → hints_by l sector long bytes ≡ []
-not_gpt (Gpt h) sector long bytes never = absurd (never h refl)
-not_gpt (Boot b) sector long bytes never = refl
-not_gpt (FileRecord r) sector long bytes never = refl
-not_gpt (Super x) sector long bytes never = refl
-not_gpt (Super5 x places) sector long bytes never = refl
-not_gpt (Agf g) sector long bytes never = refl
-not_gpt (Agi g) sector long bytes never = refl
-not_gpt (Btrfs b) sector long bytes never = refl
-not_gpt (Lvm n) sector long bytes never = refl
-not_gpt (Ext x) sector long bytes never = refl
-not_gpt (Inode i) sector long bytes never = refl
-not_gpt (Tree t) sector long bytes never = refl
-not_gpt (Inodes pair) sector long bytes never = refl
-not_gpt (Record r) sector long bytes never = refl
-not_gpt (Volume b) sector long bytes never = refl
-not_gpt (Placed pair place) sector long bytes never = refl
 
 -- none but a header has hints
 pub no_header : (lengths : List ℕ) (images : List (List ℕ)) (s : Sighting) → ((h : GptTable) → s.landmark ≡ Gpt h → ⊥) → hints_at lengths images s ≡ []
@@ -206,38 +187,26 @@ one_read a b lengths s h is entries ab =
 
 -- ---- how many those are
 
-one_at_most : (b : Bool) → cond b 1 0 ≤ 1
-one_at_most true = omega arith
-one_at_most false = omega arith
-
-followed_few : (l : Landmark) (sector long : ℕ) → cond (entries_follow l sector long) 1 0 ≤ cond (kind_place (kind_of l) == 0) 1 0
-followed_few (Gpt h) sector long = one_at_most (has_entries h sector long)
-followed_few (Boot b) sector long = omega arith
-followed_few (FileRecord r) sector long = omega arith
-followed_few (Super x) sector long = omega arith
-followed_few (Super5 x places) sector long = omega arith
-followed_few (Agf g) sector long = omega arith
-followed_few (Agi g) sector long = omega arith
-followed_few (Btrfs b) sector long = omega arith
-followed_few (Lvm n) sector long = omega arith
-followed_few (Ext x) sector long = omega arith
-followed_few (Inode i) sector long = omega arith
-followed_few (Tree t) sector long = omega arith
-followed_few (Inodes pair) sector long = omega arith
-followed_few (Record r) sector long = omega arith
-followed_few (Volume b) sector long = omega arith
-followed_few (Placed pair place) sector long = omega arith
-
 followed_are_few : (lengths : List ℕ) (found : List Sighting) → count_by (is_followed lengths) found ≤ count_by (is_same_kind GptKind) found
 unfolding is_followed
 followed_are_few lengths found =
     sum_by-le-sum_by (λ (s : Sighting). cond (is_followed lengths s) 1 0) (λ (s : Sighting). cond (is_same_kind GptKind s) 1 0) found (λ s. followed_few s.landmark s.sector (slice_index lengths s.image))
 
+headers_few : (asked : Bool) (lengths : List ℕ) (found : List Sighting) → count_by (is_followed lengths) found ≤ 4096 → count_by (is_followed lengths) (headers_of asked found) ≤ cond asked 4096 0
+headers_few true lengths found few = few
+headers_few false lengths found few = omega arith
+
+-- those whose entries are read are sightings of these images, too
+pub headers_are : (asked : Bool) (lengths : List ℕ) (found : List Sighting) → AreSightings lengths found → AreSightings lengths (headers_of asked found)
+headers_are true lengths found are = are
+headers_are false lengths found are = record { each = λ i d lt. absurd (omega (arith, lt)); rising = tt; few = λ kind. omega arith }
+
 -- where the bytes are known the sightings are those of the images
 pub entries_of : (told : Option (List (List ℕ))) (ask : Ask) (attached : List Image) (lengths : List ℕ) (found : List Sighting) → lengths ≡ lengths_of attached → IfSome told (λ bytes. found ≡ found_in ask attached bytes) →
-    count_by (is_same_kind GptKind) found ≤ MOST_MARKS → count_by (is_followed lengths) found ≤ entries_read told ask attached
-entries_of None ask attached lengths found are is few = omega (arith, followed_are_few lengths found, few)
+    count_by (is_same_kind GptKind) found ≤ MOST_MARKS → count_by (is_followed lengths) (headers_of ask.kinds.gpt found) ≤ entries_read told ask attached
+entries_of None ask attached lengths found are is few = headers_few ask.kinds.gpt lengths found (omega (arith, followed_are_few lengths found, few))
 entries_of (Some bytes) ask attached lengths found are is few =
-    let same : count_by (is_followed lengths) found ≡ count_by (is_followed (lengths_of attached)) (found_in ask attached bytes) =
-    ap (λ (ns : List ℕ). count_by (is_followed ns) found) are ∙ ap (λ (l : List Sighting). count_by (is_followed (lengths_of attached)) l) is in
+    let same : count_by (is_followed lengths) (headers_of ask.kinds.gpt found) ≡ count_by (is_followed (lengths_of attached)) (headers_of ask.kinds.gpt (found_in ask attached bytes)) =
+    ap (λ (ns : List ℕ). count_by (is_followed ns) (headers_of ask.kinds.gpt found)) are
+    ∙ ap (λ (l : List Sighting). count_by (is_followed (lengths_of attached)) (headers_of ask.kinds.gpt l)) is in
     omega (arith, same)

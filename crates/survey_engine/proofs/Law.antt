@@ -22,7 +22,7 @@ use Rattle.survey_engine.specs.Owners.{group_for, group_kind, groups_asked, grou
 use Rattle.survey_engine.specs.Sightings.{AreSightings, IsInImages}
 use Rattle.survey_engine.specs.declared.sighting.Sighting.{Sighting}
 use Rattle.survey_engine.proofs.Marks.{are_marks, are_rising}
-use Rattle.survey_engine.proofs.Once.{few_marks}
+use Rattle.survey_engine.proofs.Owners.{few_marks}
 use Rattle.survey_engine.proofs.Owners.{owners_few, owners_kind, owners_sound}
 
 abbrev pub place_of : Group → ℕ

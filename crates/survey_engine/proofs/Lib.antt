@@ -4,7 +4,6 @@ pub mod Advancing
 pub mod FourthByte
 pub mod Landmarks
 pub mod Plain
-pub mod Rules
 pub mod Order
 pub mod Rows
 pub mod Sweeping
@@ -18,7 +17,6 @@ pub mod Lengths
 pub mod Owners
 pub mod Marks
 pub mod MarksSeen
-pub mod Once
 pub mod Law
 pub mod Leaves
 pub mod Descriptors

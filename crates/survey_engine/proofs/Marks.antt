@@ -1,5 +1,17 @@
--- The marks of a group are those of a plan.
-use Rattle.std.proofs.Common.{◌≡◌, ℕ, ◌+◌, ◌*◌, ◌/◌, ◌^◌, ◌<◌, ◌≤◌, List, [], ◌∷◌, Bool, true, false, cond, map, refl, arith, All, IfSome, Option, Some, None}
+-- The marks of a group are those of a plan, and the numbers of their rules are below 2^55.
+use Rattle.std.proofs.Common.{◌≡◌, ℕ, ◌+◌, ◌*◌, ◌/◌, ◌^◌, ◌<◌, ◌≤◌, Bool, true, false, cond, IfSome, Some, None, inl, inr, refl, ap, arith, List, [], ◌∷◌, map, All, Option}
+use Rattle.std.proofs.lemmas.Bool.Decides.{nat_tests}
+use Rattle.gpt_marks.specs.Header.{IsUnit}
+use Rattle.std.proofs.Math.Nat.{mod-lt, mul-le-mul_right}
+use Rattle.ntfs_marks.specs.Boot.{is_within_limit, record_sector}
+use Rattle.ntfs_marks.specs.declared.boot.NtfsBoot.{NtfsBoot}
+use Rattle.ntfs_marks.proofs.Limits.{record_below}
+use Rattle.xfs_marks.specs.Superblock.{is_sound, ag_sectors, end_sector}
+use Rattle.xfs_marks.specs.declared.superblock.XfsSuper.{XfsSuper}
+use Rattle.xfs_marks.proofs.Limits.{ag_below}
+use Rattle.xfs5.specs.Places.{block_of, group_of as inode_group, index_of, inode_sector, is_sound as is_sound_place, sector_of}
+use Rattle.xfs5.specs.declared.places.XfsInodes.{XfsInodes}
+use Rattle.xfs5.proofs.Limits.{before_most, inode_power, sector_below}
 use Rattle.std.specs.Prelude.{◌&&◌, ◌==◌, nat_lt}
 use Rattle.std.specs.Str.{bytes_eq}
 use Rattle.std.specs.List.{cons_option, filter_map}
@@ -7,32 +19,78 @@ use Rattle.std.specs.Option.{option_map}
 use Rattle.std.specs.List.Sorted.{IsStrictlyIncreasing}
 use Rattle.std.proofs.lemmas.Nat.{mul-le}
 use Rattle.std.proofs.lemmas.Bool.{and_parts, ltb-true}
-use Rattle.std.proofs.lemmas.Bool.Decides.{nat_tests}
 use Rattle.std.proofs.lemmas.List.Elements.{All-cons, All-head, All-nil, All-tail}
-use Rattle.ntfs_marks.specs.Boot.{is_within_limit}
-use Rattle.ntfs_marks.specs.declared.boot.NtfsBoot.{NtfsBoot}
 use Rattle.ntfs_marks.specs.declared.file_record.NtfsRecord.{NtfsRecord}
-use Rattle.xfs_marks.specs.Superblock.{end_sector, ag_sectors, is_sound}
-use Rattle.xfs_marks.specs.declared.superblock.XfsSuper.{XfsSuper}
 use Rattle.more_marks.proofs.Limits.{address_below}
-use Rattle.xfs5.specs.Places.{inode_sector}
-use Rattle.landmark_rules.specs.Groups.{group_of, mark_place, IsMark}
+use Rattle.landmark_rules.specs.Groups.{group_of, kind_place, mark_place, IsMark}
 use Rattle.landmark_rules.specs.Rules.{IsRule}
 use Rattle.landmark_rules.specs.declared.marks.Mark.{Mark}
 use Rattle.landmark_rules.specs.declared.marks.Rule.{Rule}
 use Rattle.landmark_rules.specs.declared.marks.Rule.TheVariants.{At, Either, Every}
 use Rattle.survey_engine.specs.Landmarks.{kind_of, IsSound}
+use Rattle.survey_engine.specs.Origins.{entries_follow, has_entries, hints_by}
+use Rattle.survey_engine.specs.declared.landmark.GptTable.{GptTable}
 use Rattle.survey_engine.specs.Owners.{group_kind, ag_rule, is_same_boot, is_same_super, inodes_rule, is_mark_of, is_same_volume, mark_in, begins_sector, placed_rule, record_rule, rule_in, tree_rule, volume_of, IsSoundOwner}
 use Rattle.survey_engine.specs.Sightings.{sighted_at, sighting_place, AreRising, IsInImages, Place}
 use Rattle.survey_engine.specs.declared.landmark.InodePlace.{InodePlace}
 use Rattle.survey_engine.specs.declared.landmark.Landmark.{Landmark}
-use Rattle.survey_engine.specs.declared.landmark.Landmark.TheVariants.{Gpt, Boot, FileRecord, Super, Super5, Agf, Agi, Btrfs as BtrfsSector, Lvm, Ext as ExtSector, Inode, Tree, Placed}
+use Rattle.survey_engine.specs.declared.landmark.Landmark.TheVariants.{Gpt, Boot, FileRecord, Super, Super5, Agf, Agi, Btrfs as BtrfsSector, Lvm, Ext as ExtSector, Inode, Tree, Inodes, Placed, Record, Volume}
 use Rattle.survey_engine.specs.declared.owner.Owner.{Owner}
 use Rattle.survey_engine.specs.declared.owner.Owner.TheVariants.{Table, Ntfs, Xfs, Btrfs, Label, Ext, Xfs5, Trees, Extinode}
 use Rattle.survey_engine.specs.declared.sighting.Sighting.{Sighting}
 use Rattle.survey_engine.proofs.Numbers.{rising_from, Rises}
 use Rattle.survey_engine.proofs.Kept.{mapped_each}
-use Rattle.survey_engine.proofs.Rules.{head_near, in_mirror, in_table, inode_near}
+
+-- ---- The numbers of rules are below 2^55.
+
+-- file records
+pub in_table : (boot : NtfsBoot) (r : ℕ) → is_within_limit boot ≡ true → r < 16 → record_sector boot boot.mft r < 2 ^ 55
+in_table boot r sound below = (record_below boot r sound below).0
+
+pub in_mirror : (boot : NtfsBoot) (r : ℕ) → is_within_limit boot ≡ true → r < 16 → record_sector boot boot.mirror r < 2 ^ 55
+in_mirror boot r sound below = (record_below boot r sound below).1
+
+-- allocation groups and their heads
+pub ag_near : (x : XfsSuper) (g : ℕ) → is_sound x ≡ true → g < x.ag_count → g * ag_sectors x < 2 ^ 55
+ag_near x g sound below = omega (arith, ag_below x g sound below)
+
+pub head_near : (x : XfsSuper) (g s : ℕ) → is_sound x ≡ true → g < x.ag_count → s ≤ 2 → g * ag_sectors x + s * (x.sector / 512) < 2 ^ 55
+head_near x g s sound below few =
+    let most : s * (x.sector / 512) ≤ 2 * (x.sector / 512) = mul-le-mul_right (x.sector / 512) few in
+    omega (arith, ag_below x g sound below)
+
+-- blocks of 1 sector and of 8
+pub unit_small : (unit : ℕ) → IsUnit unit → (1 ≤ unit) × (unit ≤ 8)
+unit_small unit (inl one) = (omega (arith, one), omega (arith, one))
+unit_small unit (inr eight) = (omega (arith, eight), omega (arith, eight))
+
+pub block_small : (unit block : ℕ) → IsUnit unit → block < 2 ^ 55 → unit * block < 2 ^ 64
+block_small unit block (inl one) below = omega (arith, ap (λ (u : ℕ). u * block) one)
+block_small unit block (inr eight) below = omega (arith, ap (λ (u : ℕ). u * block) eight)
+
+pub lba_small : (unit lba : ℕ) → IsUnit unit → unit * lba < 2 ^ 55 → lba < 2 ^ 55
+lba_small unit lba (inl one) below = omega (arith, ap (λ (u : ℕ). u * lba) one)
+lba_small unit lba (inr eight) below = omega (arith, ap (λ (u : ℕ). u * lba) eight)
+
+-- an inode lies where its file system has its group and block
+index_below : (x : XfsInodes) (n : ℕ) → is_sound_place x ≡ true → index_of x n < 2 ^ x.inode_bits
+unfolding index_of
+index_below x n sound = let some : 1 ≤ 2 ^ x.inode_bits = (inode_power x sound).0 in mod-lt n (omega arith)
+
+if_within : (b : Bool) (sector : ℕ) → (b ≡ true → sector < 2 ^ 55) → IfSome (cond b (Some sector) None) (λ s. s < 2 ^ 55)
+if_within true sector below = below refl
+if_within false sector below = tt
+
+pub inode_near : (x : XfsInodes) (n : ℕ) → is_sound_place x ≡ true → IfSome (inode_sector x n) (λ s. s < 2 ^ 55)
+unfolding inode_sector sector_of
+inode_near x n sound =
+    if_within _ _ (λ has.
+    let group : inode_group x n < x.ag_count = grind (arith, nat_tests) in
+    let block : block_of x n < x.ag_blocks = grind (arith, nat_tests) in
+    let before = before_most (inode_group x n) (block_of x n) x.ag_blocks x.ag_count group block in
+    sector_below x (inode_group x n * x.ag_blocks + block_of x n) (index_of x n) sound before (index_below x n sound))
+
+-- ---- The marks of a group are those of a plan.
 
 -- ---- rules
 
@@ -179,3 +237,45 @@ marks_rise o alone (s ∷ found) rising =
 
 pub are_rising : (o : Owner) (alone : Bool) (found : List Sighting) → AreRising found → IsStrictlyIncreasing (map mark_place (filter_map (mark_in o alone) found))
 are_rising o alone found rising = rising_from (map mark_place (filter_map (mark_in o alone) found)) (marks_rise o alone found rising)
+
+-- ---- No landmark but a header of a partition table has entries after it.
+
+pub not_gpt : (l : Landmark) (sector long : ℕ) (bytes : List ℕ) → ((h : GptTable) → l ≡ Gpt h → ⊥) → hints_by l sector long bytes ≡ []
+not_gpt (Gpt h) sector long bytes never = absurd (never h refl)
+not_gpt (Boot b) sector long bytes never = refl
+not_gpt (FileRecord r) sector long bytes never = refl
+not_gpt (Super x) sector long bytes never = refl
+not_gpt (Super5 x places) sector long bytes never = refl
+not_gpt (Agf g) sector long bytes never = refl
+not_gpt (Agi g) sector long bytes never = refl
+not_gpt (BtrfsSector b) sector long bytes never = refl
+not_gpt (Lvm n) sector long bytes never = refl
+not_gpt (ExtSector x) sector long bytes never = refl
+not_gpt (Inode i) sector long bytes never = refl
+not_gpt (Tree t) sector long bytes never = refl
+not_gpt (Inodes pair) sector long bytes never = refl
+not_gpt (Record r) sector long bytes never = refl
+not_gpt (Volume b) sector long bytes never = refl
+not_gpt (Placed pair place) sector long bytes never = refl
+
+one_at_most : (b : Bool) → cond b 1 0 ≤ 1
+one_at_most true = omega arith
+one_at_most false = omega arith
+
+pub followed_few : (l : Landmark) (sector long : ℕ) → cond (entries_follow l sector long) 1 0 ≤ cond (kind_place (kind_of l) == 0) 1 0
+followed_few (Gpt h) sector long = one_at_most (has_entries h sector long)
+followed_few (Boot b) sector long = omega arith
+followed_few (FileRecord r) sector long = omega arith
+followed_few (Super x) sector long = omega arith
+followed_few (Super5 x places) sector long = omega arith
+followed_few (Agf g) sector long = omega arith
+followed_few (Agi g) sector long = omega arith
+followed_few (BtrfsSector b) sector long = omega arith
+followed_few (Lvm n) sector long = omega arith
+followed_few (ExtSector x) sector long = omega arith
+followed_few (Inode i) sector long = omega arith
+followed_few (Tree t) sector long = omega arith
+followed_few (Inodes pair) sector long = omega arith
+followed_few (Record r) sector long = omega arith
+followed_few (Volume b) sector long = omega arith
+followed_few (Placed pair place) sector long = omega arith

@@ -35,7 +35,7 @@ use Rattle.survey_engine.specs.Owners.{group_kind, groups_asked, groups_in, grou
 use Rattle.survey_engine.specs.Sightings.{sighted_at, sighting_place, AreRising, AreSightings, IsInImages}
 use Rattle.outside.specs.Seen.{Image, lengths_of}
 use Rattle.search_plan.specs.declared.plan.Plan.{Plan}
-use Rattle.survey_engine.specs.Origins.{origins_of}
+use Rattle.survey_engine.specs.Origins.{headers_of, origins_of}
 use Rattle.survey_engine.specs.Sizing.{all_sized}
 use Rattle.survey_engine.specs.Surveys.{found_in, Adds}
 use Rattle.survey_engine.specs.Systems.{systems_of}
@@ -344,7 +344,7 @@ pub adds_all : (bytes : Option (List (List ℕ))) (ask : Ask) (attached : List I
     plan.groups ≡ groups_of ask.kinds after ++ groups_by records.whole records.tables → lengths ≡ lengths_of attached → IfSome bytes (λ images. found ≡ found_in ask attached images) →
     IfSome bytes (λ images. records.whole ≡ whole_records lengths images (records_of ask.kinds.mft found)) → IfSome bytes (λ images. records.tables ≡ tables_in lengths images (boots_of found) (records_of ask.kinds.mft found)) →
     IfSome bytes (λ images. sized ≡ all_sized ask.kinds.xfs5 lengths images found) → IfSome bytes (λ images. after ≡ told ask.kinds lengths images sized) →
-    IfSome bytes (λ images. plan.tests.origins.items ≡ origins_of ask.tests.origins.items lengths images found) → IfSome bytes (λ images. Adds ask attached images plan)
+    IfSome bytes (λ images. plan.tests.origins.items ≡ origins_of ask.tests.origins.items lengths images (headers_of ask.kinds.gpt found)) → IfSome bytes (λ images. Adds ask attached images plan)
 unfolding table_groups
 adds_all None ask attached lengths found sized after records plan groups are is whole tables size tells origins = tt
 adds_all (Some images) ask attached lengths found sized after records plan groups are is whole tables size tells origins =
@@ -355,7 +355,9 @@ adds_all (Some images) ask attached lengths found sized after records plan group
     ∙ ap (λ (t : List MftTable). groups_of ask.kinds (told ask.kinds lengths images (all_sized ask.kinds.xfs5 lengths images found)) ++ groups_by (whole_records lengths images (records_of ask.kinds.mft found)) t) tables in
     record {
       groups = groups ∙ here ∙ ap (λ (ns : List ℕ). all ns found) are ∙ ap (all (lengths_of attached)) is;
-      origins = origins ∙ ap (λ (ns : List ℕ). origins_of ask.tests.origins.items ns images found) are ∙ ap (origins_of ask.tests.origins.items (lengths_of attached) images) is;
+      origins =
+          origins ∙ ap (λ (ns : List ℕ). origins_of ask.tests.origins.items ns images (headers_of ask.kinds.gpt found)) are
+          ∙ ap (λ (l : List Sighting). origins_of ask.tests.origins.items (lengths_of attached) images (headers_of ask.kinds.gpt l)) is;
     }
 
 -- what holds where a call succeeds

@@ -14,7 +14,7 @@ use Rattle.outside.specs.Seen.{Image, OnlyReads, Seen, lengths_of}
 use Rattle.outside.proofs.Reading.{reads_join, reads_none, reads_up}
 use Rattle.survey_engine.specs.declared.ask.Ask.{Ask}
 use Rattle.survey_engine.specs.Landmarks.{kind_of}
-use Rattle.survey_engine.specs.Origins.{is_followed}
+use Rattle.survey_engine.specs.Origins.{headers_of, is_followed}
 use Rattle.survey_engine.specs.Sightings.{is_same_kind}
 use Rattle.survey_engine.specs.Sizing.{has_run, is_unsized}
 use Rattle.survey_engine.specs.Surveys.{copies_read, found_in, inodes_read, leaves_read, records_read, survey_reads}
@@ -270,7 +270,7 @@ unfolding survey_reads
 sweep_read a b ask ab = reads_up a b ab (omega arith)
 
 pub survey_read : (a b c r d e : Seen) (ask : Ask) (lengths : List ℕ) (found new : List Sighting) → lengths ≡ lengths_of a.attached → IfSome (told_all a.attached) (λ bytes. found ≡ found_in ask a.attached bytes) →
-    ((kind : Kind) → count_by (is_same_kind kind) found ≤ 4096) → map bare new ≡ map bare found → OnlyReads a b (length a.attached * (ask.end - slice_index ask.bounds.offsets.items 0)) → OnlyReads b c (count_by (is_followed lengths) found) →
+    ((kind : Kind) → count_by (is_same_kind kind) found ≤ 4096) → map bare new ≡ map bare found → OnlyReads a b (length a.attached * (ask.end - slice_index ask.bounds.offsets.items 0)) → OnlyReads b c (count_by (is_followed lengths) (headers_of ask.kinds.gpt found)) →
     OnlyReads c r (8 * count_by (has_record lengths) (records_of ask.kinds.mft found)) → OnlyReads r d (4 * count_by (has_run ask.kinds.xfs5 lengths) found) → OnlyReads d e (32 * count_by (is_leaf ask.kinds.btrfstree lengths) new + 256 * count_by (has_copy ask.kinds.extinode lengths) new) → OnlyReads a e (survey_reads ask a.attached)
 unfolding survey_reads
 survey_read a b c r d e ask lengths found new are is few alike ab bc cr rd de =

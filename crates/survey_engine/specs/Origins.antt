@@ -24,6 +24,10 @@ hints_by (Gpt t) sector length bytes =
     if has_entries t sector length then filter_map (λ first. first) (map (first_sector t.unit) (first_lbas (sector_of bytes (sector + t.unit)) t.header.alternate)) else []
 hints_by landmark sector length bytes = []
 
+-- the sightings whose entries are read: all, if partition tables are looked for
+abbrev pub headers_of : Bool → List Sighting → List Sighting
+headers_of asked found = if asked then found else []
+
 -- entries follow a landmark in a sector of an image of that length, as they follow a header
 abbrev pub entries_follow : Landmark → ℕ → ℕ → Bool
 entries_follow (Gpt t) sector length = has_entries t sector length

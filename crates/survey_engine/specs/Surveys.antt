@@ -9,7 +9,7 @@ use Rattle.raid_params.specs.declared.limits.TheConstants.{MOST}
 use Rattle.gpt_marks.specs.Header.{IsUnit}
 use Rattle.search_plan.specs.Plans.{AreBounds, AreLimits, AreMovable, AreTests}
 use Rattle.search_plan.specs.declared.plan.Plan.{Plan}
-use Rattle.survey_engine.specs.Origins.{is_followed, origins_of}
+use Rattle.survey_engine.specs.Origins.{headers_of, is_followed, origins_of}
 use Rattle.survey_engine.specs.Owners.{groups_of}
 use Rattle.survey_engine.specs.Sightings.{counted, sightings}
 use Rattle.survey_engine.specs.Sizing.{all_sized, has_run}
@@ -41,10 +41,12 @@ pub record IsSurveyable (ask : Ask) (attached : List Image) : Type 0 where
 abbrev pub found_in : Ask → List Image → List (List ℕ) → List Sighting
 found_in ask attached images = counted (sightings ask (lengths_of attached) images (length attached))
 
--- the most sectors of entries that a survey reads: one for each sighting that counts and that entries follow, where the
--- bytes of the images are known, and else 4,096
+-- the most sectors of entries that a survey reads, if partition tables are looked for: one for each sighting that counts and that entries
+-- follow, and 4,096 if the bytes of the images are not known
 abbrev pub entries_read : Option (List (List ℕ)) → Ask → List Image → ℕ
-entries_read told ask attached = option_map_or (λ images. count_by (is_followed (lengths_of attached)) (found_in ask attached images)) told 4096
+entries_read told ask attached =
+    option_map_or (λ images. count_by (is_followed (lengths_of attached)) (headers_of ask.kinds.gpt (found_in ask attached images))) told
+    (if ask.kinds.gpt then 4096 else 0)
 
 -- the most sectors of leaves of trees of chunks that it reads: 32 for each that counts and that its image has whole, where tree blocks of
 -- btrfs are looked for, and where the bytes are not known 32 * 4,096
@@ -98,7 +100,7 @@ sized_in ask attached images = all_sized ask.kinds.xfs5 (lengths_of attached) im
 -- what it adds, by the images' bytes: groups of these with what some tell of others, those of file records of NTFS, and origins
 pub record Adds (ask : Ask) (attached : List Image) (images : List (List ℕ)) (plan : Plan) : Type 0 where
   pub groups : plan.groups ≡ groups_of ask.kinds (told ask.kinds (lengths_of attached) images (sized_in ask attached images)) ++ table_groups ask.kinds.mft (lengths_of attached) images (found_in ask attached images)
-  pub origins : plan.tests.origins.items ≡ origins_of ask.tests.origins.items (lengths_of attached) images (found_in ask attached images)
+  pub origins : plan.tests.origins.items ≡ origins_of ask.tests.origins.items (lengths_of attached) images (headers_of ask.kinds.gpt (found_in ask attached images))
 
 -- a survey ends without a plan where the images failed, and their count of faults rose, or where memory ran out, and
 -- it stayed

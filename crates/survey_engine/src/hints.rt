@@ -8,7 +8,7 @@ ghost use Rattle.gpt_marks.specs.Entry.{first_lbas};
 ghost use Rattle.gpt_marks.specs.Header.{IsUnit};
 ghost use Rattle.survey_engine.specs.Kept.{with_number};
 ghost use Rattle.survey_engine.specs.Landmarks.{IsSoundTable};
-ghost use Rattle.survey_engine.specs.Origins.{first_sector, has_entries, is_followed, hints_at, origins_of, with_numbers, AreOrigins};
+ghost use Rattle.survey_engine.specs.Origins.{first_sector, has_entries, headers_of, is_followed, hints_at, origins_of, with_numbers, AreOrigins};
 ghost use Rattle.survey_engine.specs.Sightings.{AreSightings, IsInImages};
 
 use crate::landmark::{GptTable, Landmark};
@@ -50,6 +50,13 @@ pub fn origins<I: Images>(
         add_hints(images, lengths, sighting, &mut origins)?;
     }
     Ok(origins)
+}
+
+/// The sightings whose entries are read: all, if partition tables are looked for.
+pub fn headers_of(asked: bool, found: &[Sighting]) -> &[Sighting]
+    ensures { result.now ≡ headers_of asked found.now }
+{
+    if asked { found } else { &found[..0] }
 }
 
 /// Adds the hints of a sighting: where it is a header whose entries follow, the first sectors of the
@@ -104,7 +111,7 @@ fn first_sectors(table: &GptTable, sector: &[u8; SECTOR]) -> [Option<u64>; 4]
 }
 
 /// The first sector of a partition, by its first block of `unit` sectors. None where it is 2^55 or more.
-#[tactic(auto, using(crate::proofs::Rules::block_small))]
+#[tactic(auto, using(crate::proofs::Marks::block_small))]
 fn first_sector(unit: u64, first: Option<u64>) -> Option<u64>
     requires unit { IsUnit unit }
     requires within { IfSome first (λ block. block < 2 ^ 55) }
@@ -133,7 +140,7 @@ fn add_firsts(origins: &mut Origins, firsts: &[Option<u64>])
 }
 
 /// Whether the entries after a header begin in the next block of its image, which has that length.
-#[tactic(auto, using(crate::proofs::Rules::lba_small, crate::proofs::Rules::unit_small))]
+#[tactic(auto, using(crate::proofs::Marks::lba_small, crate::proofs::Marks::unit_small))]
 fn has_entries(table: &GptTable, sector: u64, length: u64) -> bool
     requires table { IsSoundTable table.now }
     requires sector { sector < 2 ^ 55 }

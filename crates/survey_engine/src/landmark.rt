@@ -190,7 +190,7 @@ fn find_header(sector: &[u8; SECTOR]) -> Option<GptHeader>
 }
 
 /// The landmark that a header is, unless it names a sector of 2^55 or more.
-#[tactic(auto, unfolding(crate::specs::Landmarks::table_in), using(crate::proofs::Rules::block_small))]
+#[tactic(auto, unfolding(crate::specs::Landmarks::table_in), using(crate::proofs::Marks::block_small))]
 fn table_of(header: GptHeader, unit: u64) -> Option<Landmark>
     requires unit { IsUnit unit }
     requires within { header.my_lba < 2 ^ 55 }

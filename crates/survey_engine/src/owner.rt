@@ -212,7 +212,7 @@ fn is_same_volume(a: &ExtVolume, b: &ExtVolume) -> bool
 }
 
 /// Where a file record may lie that has the size of the records of its volume.
-#[tactic(auto, unfolding(crate::specs::Owners::record_rule), using(crate::proofs::Rules::in_table, crate::proofs::Rules::in_mirror))]
+#[tactic(auto, unfolding(crate::specs::Owners::record_rule), using(crate::proofs::Marks::in_table, crate::proofs::Marks::in_mirror))]
 fn record_rule(boot: &NtfsBoot, file: &NtfsRecord) -> Option<Rule>
     requires boot { IsTrue (is_within_limit boot.now) }
     requires number { file.now.number < 16 }
@@ -361,7 +361,7 @@ fn ag_sectors(found: &XfsSuper) -> u64
 
 /// Where a head of an allocation group may lie, if there is such a group: `sectors` sectors of the file
 /// system after its start.
-#[tactic(auto, unfolding(crate::specs::Owners::ag_rule), using(crate::proofs::Rules::ag_near, crate::proofs::Rules::head_near))]
+#[tactic(auto, unfolding(crate::specs::Owners::ag_rule), using(crate::proofs::Marks::ag_near, crate::proofs::Marks::head_near))]
 fn ag_rule(found: &XfsSuper, group: u32, sectors: u64) -> Option<Rule>
     requires found { IsTrue (is_sound found.now) }
     requires sectors { sectors ≤ 2 }

@@ -8,7 +8,7 @@ ghost use Rattle.survey_engine.specs.Surveys.{survey_reads, Adds, EndsSurvey, Is
 use crate::ask::Ask;
 use crate::gathering::gather;
 use crate::grouping::groups;
-use crate::hints::origins;
+use crate::hints::{headers_of, origins};
 use crate::sizing::size_inodes;
 use crate::tables::{add_tables, read_tables};
 use crate::telling::tell;
@@ -34,8 +34,8 @@ pub enum SurveyFault {
 /// Surveys the attached images: the plan repeats what was asked, and adds the images' lengths, the groups
 /// of marks that the sightings make, and the origins that partition tables hint at.
 ///
-/// Each sector from the smallest offset to the end is read once, and at most one sector of entries for
-/// each header of a partition table that counts and that entries follow, where file records of NTFS are looked for 8 sectors
+/// Each sector from the smallest offset to the end is read once, and where partition tables are looked for at most one
+/// sector of entries for each header that counts and that entries follow, where file records of NTFS are looked for 8 sectors
 /// from each on that counts and that its image has whole, where inodes of XFS are looked for 4 sectors from
 /// each that counts on with which one of more than 512 bytes may begin and of which its image has them, where tree blocks of
 /// btrfs are looked for 32 sectors for each leaf of the tree of chunks that counts and that its image has whole, and, where
@@ -53,7 +53,8 @@ pub fn survey<I: Images>(alloc: Global, images: &mut I, ask: &Ask) -> Result<Pla
     let lengths = lengths(images);
     let mut found = gather(alloc, images, ask, &lengths)?;
     let asked = ask.tests.origins.as_slice();
-    let origins = origins(images, asked, &lengths, &found).map_err(|_| SurveyFault::ReadFault)?;
+    let headers = headers_of(ask.kinds.gpt, &found);
+    let origins = origins(images, asked, &lengths, headers).map_err(|_| SurveyFault::ReadFault)?;
     let records = read_tables(alloc, images, &lengths, ask.kinds.mft, &found)?;
     let told = found.as_mut_slice();
     size_inodes(images, &lengths, ask.kinds.xfs5, told).map_err(|_| SurveyFault::ReadFault)?;

@@ -29,7 +29,7 @@ use Rattle.landmark_rules.specs.declared.marks.Group.{Group}
 use Rattle.raid_params.specs.declared.types.Bounds.{Bounds}
 use Rattle.search_plan.specs.declared.plan.Plan.{Plan}
 use Rattle.search_scope.specs.declared.scope.Limits.{Limits}
-use Rattle.survey_engine.specs.Origins.{origins_of}
+use Rattle.survey_engine.specs.Origins.{headers_of, origins_of}
 use Rattle.survey_engine.specs.Owners.{groups_of}
 use Rattle.survey_engine.specs.Surveys.{Adds, Repeats, found_in, sized_in, survey_reads as reads_of, IsSurveyable}
 use Rattle.survey_engine.specs.Tables.{table_groups}
@@ -168,7 +168,7 @@ survey_is ask attached bytes plan repeats adds =
     let groups = adds.groups in
     let origins = adds.origins in
     let same : plan_with plan.lengths.items plan.end plan.bounds plan.limits plan.tests.origins.items plan.tests.misfits plan.tests.least plan.groups plan.each
-    ≡ plan_with (lengths_of attached) ask.end ask.bounds ask.limits (origins_of ask.tests.origins.items (lengths_of attached) bytes (found_in ask attached bytes)) ask.tests.misfits ask.tests.least (groups_of ask.kinds (told_sightings ask.kinds (lengths_of attached) bytes (sized_in ask attached bytes)) ++ table_groups ask.kinds.mft (lengths_of attached) bytes (found_in ask attached bytes)) ask.each = cc in
+    ≡ plan_with (lengths_of attached) ask.end ask.bounds ask.limits (origins_of ask.tests.origins.items (lengths_of attached) bytes (headers_of ask.kinds.gpt (found_in ask attached bytes))) ask.tests.misfits ask.tests.least (groups_of ask.kinds (told_sightings ask.kinds (lengths_of attached) bytes (sized_in ask attached bytes)) ++ table_groups ask.kinds.mft (lengths_of attached) bytes (found_in ask attached bytes)) ask.each = cc in
     same
 
 -- and its text

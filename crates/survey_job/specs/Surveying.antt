@@ -6,7 +6,7 @@ use Rattle.std.specs.declared.option.Option.TheVariants.{None}
 use Rattle.asked_values.specs.Asked.{members_for, window_for}
 use Rattle.outside.specs.Seen.{Image, lengths_of}
 use Rattle.search_plan.specs.declared.plan.Plan.{Plan}
-use Rattle.survey_engine.specs.Origins.{origins_of}
+use Rattle.survey_engine.specs.Origins.{headers_of, origins_of}
 use Rattle.survey_engine.specs.Owners.{groups_of}
 use Rattle.survey_engine.specs.Surveys.{found_in, sized_in, survey_reads as reads_of}
 use Rattle.survey_engine.specs.Tables.{table_groups}
@@ -43,7 +43,7 @@ survey_plan ask attached images = record {
   bounds = ask.bounds;
   limits = ask.limits;
   tests = record {
-    origins = record { items = origins_of ask.tests.origins.items (lengths_of attached) images (found_in ask attached images) };
+    origins = record { items = origins_of ask.tests.origins.items (lengths_of attached) images (headers_of ask.kinds.gpt (found_in ask attached images)) };
     misfits = ask.tests.misfits;
     least = ask.tests.least;
   };

@@ -2,7 +2,7 @@ use Rattle.std.proofs.Common.{◌≡◌, ◌++◌, ◌^◌, ◌<◌, ◌≤◌, 
 use Rattle.std.proofs.lemmas.List.Elements.{All-same}
 use Rattle.mft_survey.specs.Records.{tables_in, whole_records}
 use Rattle.outside.specs.Attached.{told_all}
-use Rattle.survey_engine.specs.Origins.{origins_of, AreOrigins}
+use Rattle.survey_engine.specs.Origins.{headers_of, origins_of, AreOrigins}
 use Rattle.survey_engine.specs.Sizing.{all_sized}
 use Rattle.survey_engine.specs.Surveys.{found_in}
 use Rattle.survey_engine.specs.Owners.{groups_of}
@@ -10,6 +10,7 @@ use Rattle.survey_engine.specs.Sightings.{AreSightings}
 use Rattle.outside.specs.Seen.{lengths_of}
 use Rattle.survey_engine.specs.Telling.{bare, told}
 use Rattle.survey_engine.specs.Tables.{boots_of, groups_by, records_of, AreRecords}
+use Rattle.survey_engine.proofs.Firsts.{headers_are}
 use Rattle.survey_engine.proofs.Told.{none_of_records, none_read, none_sized, survey_read, sweep_read}
 use Rattle.survey_engine.proofs.TableLaw.{adds_all, are_all, on_ok}
 use Rattle.survey_engine.proofs.Leaves.{are_alike}
@@ -18,7 +19,12 @@ use Rattle.survey_engine.proofs.planning.survey.Goals as goal
 
 pub origins-requires-clause-short : goal.origins-requires-clause-short
 origins-requires-clause-short g c =
-    All-same (λ n. n < 2 ^ 55) c.deref-2.result.now (lengths_of (g.I.Images.seen c.args.images.now).attached) (search rules) (are_short (g.I.Images.seen c.args.images.now).attached c.requires.short)
+    All-same (λ n. n < 2 ^ 55) c.deref-3.result.now (lengths_of (g.I.Images.seen c.args.images.now).attached) (search rules) (are_short (g.I.Images.seen c.args.images.now).attached c.requires.short)
+
+pub origins-requires-clause-found : goal.origins-requires-clause-found
+origins-requires-clause-found g c =
+    let are : AreSightings c.deref-3.result.now c.deref-2.result.now = search rules in
+    rw c.headers_of-headers.ensures (headers_are c.args.ask.now.kinds.gpt c.deref-3.result.now c.deref-2.result.now are)
 
 pub read_tables-requires-clause-short : goal.read_tables-requires-clause-short
 read_tables-requires-clause-short g c =
@@ -72,7 +78,7 @@ returns-clause-adds g c =
     let tables : IfSome (told_all attached) (λ images. c.in_ok-records.records.tables ≡ tables_in lengths images (boots_of found) (records_of kinds.mft found)) = search rules in
     let size : IfSome (told_all attached) (λ images. c.size_inodes.new.found ≡ all_sized kinds.xfs5 lengths images found) = search rules in
     let tells : IfSome (told_all attached) (λ images. c.tell.new.found ≡ told kinds lengths images c.size_inodes.new.found) = search rules in
-    let origins : IfSome (told_all attached) (λ images. c.in_ok-origins.origins.items ≡ origins_of c.args.ask.now.tests.origins.items lengths images found) = search rules in
+    let origins : IfSome (told_all attached) (λ images. c.in_ok-origins.origins.items ≡ origins_of c.args.ask.now.tests.origins.items lengths images (headers_of kinds.gpt found)) = search rules in
     adds_all (told_all attached) c.args.ask.now attached lengths found c.size_inodes.new.found c.tell.new.found c.in_ok-records.records _ made are is whole tables size tells origins
 
 pub returns-clause-reads : goal.returns-clause-reads

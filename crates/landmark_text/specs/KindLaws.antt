@@ -46,9 +46,10 @@ kinds_apart = refl
 group_named : (kind : GroupKind) → (list_all is_plain (group_name kind) ≡ true) × (place_of_name group_name GROUPS (group_name kind) ≡ group_place kind)
 group_named kind =
     let is = is_listed kind in
-    let at = apart_at group_name GROUPS 0 GROUPS (group_place kind) (group_at 0) groups_apart is.below in
-    (sym (ap (λ (k : GroupKind). list_all is_plain (group_name k)) is.back) ∙ at.0,
-      omega (arith, ap (λ (k : GroupKind). place_of_name group_name GROUPS (group_name k)) is.back, at.1))
+    let at = apart_at group_name GROUPS 0 GROUPS (group_place kind) (group_at 0) groups_apart is.below in (
+      sym (ap (λ (k : GroupKind). list_all is_plain (group_name k)) is.back) ∙ at.0,
+      omega (arith, ap (λ (k : GroupKind). place_of_name group_name GROUPS (group_name k)) is.back, at.1),
+    )
 
 pub group_law : IsFieldName group_name (λ kind. Unit {0})
 group_law = record {
@@ -64,9 +65,10 @@ group_law = record {
 kind_named : (kind : Kind) → (list_all is_plain (kind_name kind) ≡ true) × (place_of_name kind_name KINDS (kind_name kind) ≡ kind_place kind)
 kind_named kind =
     let is = kind_listed kind in
-    let at = apart_at kind_name KINDS 0 KINDS (kind_place kind) (kind_at 0) kinds_apart is.0 in
-    (sym (ap (λ (k : Kind). list_all is_plain (kind_name k)) is.1) ∙ at.0,
-      omega (arith, ap (λ (k : Kind). place_of_name kind_name KINDS (kind_name k)) is.1, at.1))
+    let at = apart_at kind_name KINDS 0 KINDS (kind_place kind) (kind_at 0) kinds_apart is.0 in (
+      sym (ap (λ (k : Kind). list_all is_plain (kind_name k)) is.1) ∙ at.0,
+      omega (arith, ap (λ (k : Kind). place_of_name kind_name KINDS (kind_name k)) is.1, at.1),
+    )
 
 pub kind_law : IsFieldName kind_name (λ kind. Unit {0})
 kind_law = record {

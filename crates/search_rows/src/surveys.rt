@@ -411,11 +411,7 @@ static INODE_ROWS: [Row; 9] = [
         NO_INODE,
     ),
     // with a damaged superblock, which tells only if its checksum is not looked at
-    (
-        &[SUPER_AT_9, (0, 9, DAMAGED), ROOT_AT_20],
-        XFS5,
-        NO_INODE,
-    ),
+    (&[SUPER_AT_9, (0, 9, DAMAGED), ROOT_AT_20], XFS5, NO_INODE),
     (
         &[SUPER_AT_9, (0, 9, WIDE), (0, 9, DAMAGED), ROOT_AT_20],
         XFS5,
@@ -459,11 +455,7 @@ static DIFFERING: [Row; 4] = [
     ),
     // the one that says otherwise is damaged, so it does not count
     (
-        &[
-            (0, 3, &[(102, &[2])]),
-            SUPER_AT_9,
-            LATER_AT_20,
-        ],
+        &[(0, 3, &[(102, &[2])]), SUPER_AT_9, LATER_AT_20],
         XFS5,
         &[LATER_LINES],
     ),

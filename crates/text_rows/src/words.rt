@@ -643,7 +643,10 @@ fn relations_have_64_offsets_at_most(rt: HostRuntime) -> Result<(), Fail> {
 fn a_word_alone_asks_for_its_text(rt: HostRuntime) -> Result<(), Fail> {
     let alloc = rt.alloc();
     for word in &["--help", "-h", "help"] {
-        assert!(rt; matches!(read_text(alloc, word)?, Ok(Command::Help)), "{word}");
+        assert!(rt;
+            matches!(read_text(alloc, word)?, Ok(Command::Help)),
+            "{word}"
+        );
     }
     assert!(rt; matches!(read_text(alloc, "--version")?, Ok(Command::Version)));
     Ok(())

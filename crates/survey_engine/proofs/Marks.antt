@@ -242,21 +242,7 @@ are_rising o alone found rising = rising_from (map mark_place (filter_map (mark_
 
 pub not_gpt : (l : Landmark) (sector long : ℕ) (bytes : List ℕ) → ((h : GptTable) → l ≡ Gpt h → ⊥) → hints_by l sector long bytes ≡ []
 not_gpt (Gpt h) sector long bytes never = absurd (never h refl)
-not_gpt (Boot b) sector long bytes never = refl
-not_gpt (FileRecord r) sector long bytes never = refl
-not_gpt (Super x) sector long bytes never = refl
-not_gpt (Super5 x places) sector long bytes never = refl
-not_gpt (Agf g) sector long bytes never = refl
-not_gpt (Agi g) sector long bytes never = refl
-not_gpt (BtrfsSector b) sector long bytes never = refl
-not_gpt (Lvm n) sector long bytes never = refl
-not_gpt (ExtSector x) sector long bytes never = refl
-not_gpt (Inode i) sector long bytes never = refl
-not_gpt (Tree t) sector long bytes never = refl
-not_gpt (Inodes pair) sector long bytes never = refl
-not_gpt (Record r) sector long bytes never = refl
-not_gpt (Volume b) sector long bytes never = refl
-not_gpt (Placed pair place) sector long bytes never = refl
+not_gpt o sector long bytes never = refl
 
 one_at_most : (b : Bool) → cond b 1 0 ≤ 1
 one_at_most true = omega arith
@@ -264,18 +250,4 @@ one_at_most false = omega arith
 
 pub followed_few : (l : Landmark) (sector long : ℕ) → cond (entries_follow l sector long) 1 0 ≤ cond (kind_place (kind_of l) == 0) 1 0
 followed_few (Gpt h) sector long = one_at_most (has_entries h sector long)
-followed_few (Boot b) sector long = omega arith
-followed_few (FileRecord r) sector long = omega arith
-followed_few (Super x) sector long = omega arith
-followed_few (Super5 x places) sector long = omega arith
-followed_few (Agf g) sector long = omega arith
-followed_few (Agi g) sector long = omega arith
-followed_few (BtrfsSector b) sector long = omega arith
-followed_few (Lvm n) sector long = omega arith
-followed_few (ExtSector x) sector long = omega arith
-followed_few (Inode i) sector long = omega arith
-followed_few (Tree t) sector long = omega arith
-followed_few (Inodes pair) sector long = omega arith
-followed_few (Record r) sector long = omega arith
-followed_few (Volume b) sector long = omega arith
-followed_few (Placed pair place) sector long = omega arith
+followed_few o sector long = omega arith

@@ -89,22 +89,13 @@ sound_inode i None is = tt
 sound_inode i (Some p) is = sound_tested (Xfs5 p) (is_some (inode_rule p i)) is
 
 sound_in : (systems : List XfsInodes) (at : Place) (l : Landmark) → All AreSoundPlaces systems → IsSound l → IfSome (owner_in systems at l) IsSoundOwner
-sound_in systems at (Gpt h) all is = tt
 sound_in systems at (Boot b) all is = is
-sound_in systems at (FileRecord r) all is = tt
 sound_in systems at (Super x) all is = is
 sound_in systems at (Super5 x places) all is = is.0
-sound_in systems at (Agf g) all is = tt
-sound_in systems at (Agi g) all is = tt
-sound_in systems at (BtrfsSector b) all is = tt
-sound_in systems at (Lvm n) all is = tt
-sound_in systems at (ExtSector x) all is = tt
 sound_in systems at (Inode i) all is = sound_inode i (system_with systems i.inode.uuid) (system_is systems i.inode.uuid all)
 sound_in systems at (Tree t) all is = sound_tested (Trees t.block.identifier) (is_some (tree_rule t)) tt
-sound_in systems at (Inodes pair) all is = tt
-sound_in systems at (Record r) all is = tt
-sound_in systems at (Volume b) all is = tt
 sound_in systems at (Placed pair place) all is = sound_tested (Extinode place.identifier) (is_some (inodes_rule place)) tt
+sound_in systems at o all is = tt
 
 -- so is the one that a landmark names
 pub sound_named : (systems : List XfsInodes) (at : Place) (l : Landmark) (o : Owner) → All AreSoundPlaces systems → IsSound l → owner_in systems at l ≡ Some o → IsSoundOwner o
@@ -162,15 +153,8 @@ label_means i s j t same =
 
 -- the inodes of one file system, as another owner is compared with them
 places_alike : (a b : XfsInodes) (p : Owner) → a.uuid ≡ b.uuid → is_same_owner (Xfs5 a) p ≡ is_same_owner (Xfs5 b) p
-places_alike a b Table same = refl
-places_alike a b (Ntfs c) same = refl
-places_alike a b (Xfs c) same = refl
-places_alike a b (Btrfs c) same = refl
-places_alike a b (Label i s) same = refl
-places_alike a b (Ext c) same = refl
-places_alike a b (Trees c) same = refl
-places_alike a b (Extinode c) same = refl
 places_alike a b (Xfs5 c) same = ap (λ (u : List ℕ). bytes_eq u c.uuid) same
+places_alike a b o same = refl
 
 as_one : (a b p : Owner) → a ≡ b → is_same_owner a p ≡ is_same_owner b p
 as_one a b p same = ap (λ (o : Owner). is_same_owner o p) same
@@ -267,87 +251,38 @@ passed false rule = refl
 
 takes_boot : (alone : Bool) (at : Place) (c : NtfsBoot) (o : Owner) → is_some (rule_in o alone at (Boot c)) ≡ true → is_same_owner o (Ntfs c) ≡ true
 unfolding rule_in
-takes_boot alone at c Table takes = takes
 takes_boot alone at c (Ntfs b) takes = sym (passed (is_same_boot b c) (Either 0 b.total)) ∙ takes
-takes_boot alone at c (Xfs x) takes = takes
-takes_boot alone at c (Btrfs f) takes = takes
-takes_boot alone at c (Label i s) takes = takes
-takes_boot alone at c (Ext v) takes = takes
-takes_boot alone at c (Xfs5 x) takes = takes
-takes_boot alone at c (Trees u) takes = takes
-takes_boot alone at c (Extinode u) takes = takes
+takes_boot alone at c o takes = takes
 
 takes_super : (alone : Bool) (at : Place) (y : XfsSuper) (o : Owner) → is_some (rule_in o alone at (Super y)) ≡ true → is_same_owner o (Xfs y) ≡ true
 unfolding rule_in
-takes_super alone at y Table takes = takes
-takes_super alone at y (Ntfs b) takes = takes
 takes_super alone at y (Xfs x) takes = sym (passed (is_same_super x y) (Every (ag_sectors x) x.ag_count 0)) ∙ takes
-takes_super alone at y (Btrfs f) takes = takes
-takes_super alone at y (Label i s) takes = takes
-takes_super alone at y (Ext v) takes = takes
-takes_super alone at y (Xfs5 x) takes = takes
-takes_super alone at y (Trees u) takes = takes
-takes_super alone at y (Extinode u) takes = takes
+takes_super alone at y o takes = takes
 
 takes_super5 : (alone : Bool) (at : Place) (y : XfsSuper) (places : XfsInodes) (o : Owner) → is_some (rule_in o alone at (Super5 y places)) ≡ true → is_same_owner o (Xfs y) ≡ true
 unfolding rule_in
-takes_super5 alone at y places Table takes = takes
-takes_super5 alone at y places (Ntfs b) takes = takes
 takes_super5 alone at y places (Xfs x) takes = sym (passed (is_same_super x y) (Every (ag_sectors x) x.ag_count 0)) ∙ takes
-takes_super5 alone at y places (Btrfs f) takes = takes
-takes_super5 alone at y places (Label i s) takes = takes
-takes_super5 alone at y places (Ext v) takes = takes
-takes_super5 alone at y places (Xfs5 x) takes = takes
-takes_super5 alone at y places (Trees u) takes = takes
-takes_super5 alone at y places (Extinode u) takes = takes
+takes_super5 alone at y places o takes = takes
 
 takes_header : (alone : Bool) (at : Place) (t : GptTable) (o : Owner) → is_some (rule_in o alone at (Gpt t)) ≡ true → is_same_owner o Table ≡ true
 unfolding rule_in
 takes_header alone at t Table takes = takes
-takes_header alone at t (Ntfs b) takes = takes
-takes_header alone at t (Xfs x) takes = takes
-takes_header alone at t (Btrfs f) takes = takes
-takes_header alone at t (Label i s) takes = takes
-takes_header alone at t (Ext v) takes = takes
-takes_header alone at t (Xfs5 x) takes = takes
-takes_header alone at t (Trees u) takes = takes
-takes_header alone at t (Extinode u) takes = takes
+takes_header alone at t o takes = takes
 
 takes_btrfs : (alone : Bool) (at : Place) (y : BtrfsSuper) (o : Owner) → is_some (rule_in o alone at (BtrfsSector y)) ≡ true → is_same_owner o (Btrfs y.fsid) ≡ true
 unfolding rule_in
-takes_btrfs alone at y Table takes = takes
-takes_btrfs alone at y (Ntfs b) takes = takes
-takes_btrfs alone at y (Xfs x) takes = takes
 takes_btrfs alone at y (Btrfs f) takes = sym (passed (bytes_eq f y.fsid) (At (y.address / 512))) ∙ takes
-takes_btrfs alone at y (Label i s) takes = takes
-takes_btrfs alone at y (Ext v) takes = takes
-takes_btrfs alone at y (Xfs5 x) takes = takes
-takes_btrfs alone at y (Trees u) takes = takes
-takes_btrfs alone at y (Extinode u) takes = takes
+takes_btrfs alone at y o takes = takes
 
 takes_label : (alone : Bool) (at : Place) (n : ℕ) (o : Owner) → is_some (rule_in o alone at (Lvm n)) ≡ true → is_same_owner o (Label at.image at.sector) ≡ true
 unfolding rule_in
-takes_label alone at n Table takes = takes
-takes_label alone at n (Ntfs b) takes = takes
-takes_label alone at n (Xfs x) takes = takes
-takes_label alone at n (Btrfs f) takes = takes
 takes_label alone at n (Label i s) takes = sym (passed (i == at.image && s == at.sector) (At n)) ∙ takes
-takes_label alone at n (Ext v) takes = takes
-takes_label alone at n (Xfs5 x) takes = takes
-takes_label alone at n (Trees u) takes = takes
-takes_label alone at n (Extinode u) takes = takes
+takes_label alone at n o takes = takes
 
 takes_copy : (alone : Bool) (at : Place) (y : ExtSuper) (o : Owner) → is_some (rule_in o alone at (ExtSector y)) ≡ true → is_same_owner o (Ext (volume_of y)) ≡ true
 unfolding rule_in
-takes_copy alone at y Table takes = takes
-takes_copy alone at y (Ntfs b) takes = takes
-takes_copy alone at y (Xfs x) takes = takes
-takes_copy alone at y (Btrfs f) takes = takes
-takes_copy alone at y (Label i s) takes = takes
 takes_copy alone at y (Ext v) takes = sym (passed (is_same_volume v (volume_of y)) (At y.copy_sector)) ∙ takes
-takes_copy alone at y (Xfs5 x) takes = takes
-takes_copy alone at y (Trees u) takes = takes
-takes_copy alone at y (Extinode u) takes = takes
+takes_copy alone at y o takes = takes
 
 -- an owner of inodes with an identifier
 of_uuid : List ℕ → XfsInodes
@@ -364,15 +299,8 @@ marks_inode x i is =
 
 takes_inode : (alone : Bool) (at : Place) (i : InodeSeen) (o : Owner) → is_some (rule_in o alone at (Inode i)) ≡ true → is_same_owner o (Xfs5 (of_uuid i.inode.uuid)) ≡ true
 unfolding rule_in of_uuid
-takes_inode alone at i Table takes = takes
-takes_inode alone at i (Ntfs b) takes = takes
-takes_inode alone at i (Xfs x) takes = takes
-takes_inode alone at i (Btrfs f) takes = takes
-takes_inode alone at i (Label j s) takes = takes
-takes_inode alone at i (Ext v) takes = takes
 takes_inode alone at i (Xfs5 x) takes = marks_inode x i (placed_passed (is_mark_of x i) (inode_sector x i.inode.number) takes)
-takes_inode alone at i (Trees u) takes = takes
-takes_inode alone at i (Extinode u) takes = takes
+takes_inode alone at i o takes = takes
 
 ruled_passed : (b : Bool) (rule : Option Rule) → is_some (cond b rule None) ≡ true → b ≡ true
 ruled_passed true rule takes = refl
@@ -380,101 +308,45 @@ ruled_passed false rule takes = takes
 
 takes_tree : (alone : Bool) (at : Place) (t : TreeSeen) (o : Owner) → is_some (rule_in o alone at (Tree t)) ≡ true → is_same_owner o (Trees t.block.identifier) ≡ true
 unfolding rule_in
-takes_tree alone at t Table takes = takes
-takes_tree alone at t (Ntfs b) takes = takes
-takes_tree alone at t (Xfs x) takes = takes
-takes_tree alone at t (Btrfs f) takes = takes
-takes_tree alone at t (Label j s) takes = takes
-takes_tree alone at t (Ext v) takes = takes
-takes_tree alone at t (Xfs5 x) takes = takes
 takes_tree alone at t (Trees u) takes = ruled_passed (bytes_eq u t.block.identifier) (tree_rule t) takes
-takes_tree alone at t (Extinode u) takes = takes
+takes_tree alone at t o takes = takes
 
 takes_placed : (alone : Bool) (at : Place) (pair : InodePair) (place : InodePlace) (o : Owner) → is_some (rule_in o alone at (Placed pair place)) ≡ true → is_same_owner o (Extinode place.identifier) ≡ true
 unfolding rule_in
-takes_placed alone at pair place Table takes = takes
-takes_placed alone at pair place (Ntfs b) takes = takes
-takes_placed alone at pair place (Xfs x) takes = takes
-takes_placed alone at pair place (Btrfs f) takes = takes
-takes_placed alone at pair place (Label j s) takes = takes
-takes_placed alone at pair place (Ext v) takes = takes
-takes_placed alone at pair place (Xfs5 x) takes = takes
-takes_placed alone at pair place (Trees u) takes = takes
 takes_placed alone at pair place (Extinode u) takes = ruled_passed (bytes_eq u place.identifier) (inodes_rule place) takes
+takes_placed alone at pair place o takes = takes
 
 -- two inodes of which it is not known where they lie are no mark
 none_unplaced : (alone : Bool) (at : Place) (pair : InodePair) (o : Owner) → is_some (rule_in o alone at (Inodes pair)) ≡ false
 unfolding rule_in
 none_unplaced alone at pair Table = refl
-none_unplaced alone at pair (Ntfs b) = refl
-none_unplaced alone at pair (Xfs x) = refl
-none_unplaced alone at pair (Btrfs f) = refl
-none_unplaced alone at pair (Label j s) = refl
-none_unplaced alone at pair (Ext v) = refl
-none_unplaced alone at pair (Xfs5 x) = refl
-none_unplaced alone at pair (Trees u) = refl
-none_unplaced alone at pair (Extinode u) = refl
+none_unplaced alone at pair o = refl
 
 -- nor is what tells of file records of NTFS: those are marks of their tables
 none_of_record : (alone : Bool) (at : Place) (r : RecordStart) (o : Owner) → is_some (rule_in o alone at (Record r)) ≡ false
 unfolding rule_in
 none_of_record alone at r Table = refl
-none_of_record alone at r (Ntfs b) = refl
-none_of_record alone at r (Xfs x) = refl
-none_of_record alone at r (Btrfs f) = refl
-none_of_record alone at r (Label j s) = refl
-none_of_record alone at r (Ext v) = refl
-none_of_record alone at r (Xfs5 x) = refl
-none_of_record alone at r (Trees u) = refl
-none_of_record alone at r (Extinode u) = refl
+none_of_record alone at r o = refl
 
 none_of_volume : (alone : Bool) (at : Place) (b : MftBoot) (o : Owner) → is_some (rule_in o alone at (Volume b)) ≡ false
 unfolding rule_in
 none_of_volume alone at b Table = refl
-none_of_volume alone at b (Ntfs c) = refl
-none_of_volume alone at b (Xfs x) = refl
-none_of_volume alone at b (Btrfs f) = refl
-none_of_volume alone at b (Label j s) = refl
-none_of_volume alone at b (Ext v) = refl
-none_of_volume alone at b (Xfs5 x) = refl
-none_of_volume alone at b (Trees u) = refl
-none_of_volume alone at b (Extinode u) = refl
+none_of_volume alone at b o = refl
 
 none_alone_record : (at : Place) (r : NtfsRecord) (o : Owner) → is_some (rule_in o false at (FileRecord r)) ≡ false
 unfolding rule_in
 none_alone_record at r Table = refl
-none_alone_record at r (Ntfs b) = refl
-none_alone_record at r (Xfs x) = refl
-none_alone_record at r (Btrfs f) = refl
-none_alone_record at r (Label i s) = refl
-none_alone_record at r (Ext v) = refl
-none_alone_record at r (Xfs5 x) = refl
-none_alone_record at r (Trees u) = refl
-none_alone_record at r (Extinode u) = refl
+none_alone_record at r o = refl
 
 none_alone_agf : (at : Place) (g : ℕ) (o : Owner) → is_some (rule_in o false at (Agf g)) ≡ false
 unfolding rule_in
 none_alone_agf at g Table = refl
-none_alone_agf at g (Ntfs b) = refl
-none_alone_agf at g (Xfs x) = refl
-none_alone_agf at g (Btrfs f) = refl
-none_alone_agf at g (Label i s) = refl
-none_alone_agf at g (Ext v) = refl
-none_alone_agf at g (Xfs5 x) = refl
-none_alone_agf at g (Trees u) = refl
-none_alone_agf at g (Extinode u) = refl
+none_alone_agf at g o = refl
 
 none_alone_agi : (at : Place) (g : ℕ) (o : Owner) → is_some (rule_in o false at (Agi g)) ≡ false
 unfolding rule_in
 none_alone_agi at g Table = refl
-none_alone_agi at g (Ntfs b) = refl
-none_alone_agi at g (Xfs x) = refl
-none_alone_agi at g (Btrfs f) = refl
-none_alone_agi at g (Label i s) = refl
-none_alone_agi at g (Ext v) = refl
-none_alone_agi at g (Xfs5 x) = refl
-none_alone_agi at g (Trees u) = refl
-none_alone_agi at g (Extinode u) = refl
+none_alone_agi at g o = refl
 
 alone_or : (owners : List Owner) (at : Place) (l : Landmark) (alone : Bool) → eqb (length owners) 1 ≡ alone → ((o : Owner) → is_some (rule_in o false at l) ≡ false) → count_by (λ o. is_some (rule_in o alone at l)) owners ≤ 1
 alone_or owners at l true e none = let one : length owners ≡ 1 = eqb-true (length owners) 1 e in omega (arith, count_by-le-length (λ o. is_some (rule_in o true at l)) owners)

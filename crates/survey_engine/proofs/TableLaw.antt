@@ -273,14 +273,7 @@ of_tables lengths records are =
 
 no_owner : (o : Owner) → is_same_group (group_kind o) MftGroup ≡ false
 no_owner Table = refl
-no_owner (Ntfs b) = refl
-no_owner (Xfs x) = refl
-no_owner (Btrfs f) = refl
-no_owner (Label i s) = refl
-no_owner (Ext v) = refl
-no_owner (Xfs5 x) = refl
-no_owner (Trees u) = refl
-no_owner (Extinode u) = refl
+no_owner o = refl
 
 abbrev none_named : Option Owner
 none_named = None

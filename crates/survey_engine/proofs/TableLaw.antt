@@ -1,9 +1,10 @@
 -- The groups of file records of NTFS are those of a plan, behind the others.
 use Rattle.std.proofs.Common.{◌≡◌, ℕ, zero, suc, ◌+◌, ◌*◌, ◌/◌, ◌^◌, ◌<◌, ◌≤◌, List, [], ◌∷◌, ◌++◌, Bool, true, false, cond, length, map, take, refl, sym, ap, subst, ◌∙◌, arith, All, IfSome, IsTrue, OnOk, Option, Some, None, Result, Ok, Err, inl, inr}
-use Rattle.std.specs.Prelude.{count_by, nat_lt, option_and_then, ◌==◌, ◌&&◌}
+use Rattle.std.specs.Prelude.{count_by, nat_le, nat_lt, option_and_then, ◌==◌, ◌&&◌}
 use Rattle.std.specs.List.{cons_option, filter_map, flat_map}
 use Rattle.std.specs.List.Sorted.{IsStrictlyIncreasing}
 use Rattle.std.specs.Option.{is_some, option_map}
+use Rattle.std.proofs.lemmas.Bool.{and_parts, leb-true}
 use Rattle.std.proofs.lemmas.List.{append-nil, append_assoc, length-append, length-map, length-take}
 use Rattle.std.proofs.lemmas.List.Concat.{flat_map-append}
 use Rattle.std.proofs.lemmas.List.Elements.{All-cons, All-head, All-map, All-nil, All-tail, All-take}
@@ -26,7 +27,7 @@ use Rattle.landmark_rules.specs.declared.marks.Group.{Group}
 use Rattle.landmark_rules.specs.declared.marks.Mark.{Mark}
 use Rattle.mark_kinds.specs.Table.{all_groups, group_place, is_group_asked, is_same_group, most_groups}
 use Rattle.mark_kinds.specs.declared.table.GroupKind.{GroupKind}
-use Rattle.mark_kinds.specs.declared.table.GroupKind.TheVariants.{Gpt as GptGroup, Ntfs as NtfsGroup, Xfs as XfsGroup, Btrfs as BtrfsGroup, Lvm as LvmGroup, Ext as ExtGroup, Extinode as ExtinodeGroup, Xfs5 as Xfs5Group, Btrfstree as BtrfstreeGroup, Mft as MftGroup}
+use Rattle.mark_kinds.specs.declared.table.GroupKind.TheVariants.{Mft as MftGroup}
 use Rattle.mark_kinds.specs.declared.table.Kinds.{Kinds}
 use Rattle.mark_kinds.specs.declared.table.Kind.{Kind}
 use Rattle.survey_engine.specs.Kept.{kept}
@@ -253,7 +254,7 @@ few_in_all most whole [] = omega arith
 few_in_all most whole (t ∷ tables) =
     omega (arith, few_with (map record_mark (marks_by most whole t)) (filter_map (group_by most whole) tables), few_by most whole t, few_in_all most whole tables)
 
-of_tables : (lengths : List ℕ) (records : Records) → AreRecords lengths records → AreOf lengths 9 32 (groups_by records.whole records.tables)
+of_tables : (lengths : List ℕ) (records : Records) → AreRecords lengths records → AreOf lengths (group_place MftGroup) 32 (groups_by records.whole records.tables)
 unfolding groups_by
 of_tables lengths records are =
     let whole = records.whole in
@@ -261,7 +262,7 @@ of_tables lengths records are =
     let most = 4096 / length tables in
     let few : most * length tables ≤ 4096 = omega arith in
     record {
-      place = each_group (λ g. place_in_order g ≡ 9) most whole tables (λ t so. refl) are.sound;
+      place = each_group (λ g. place_in_order g ≡ group_place MftGroup) most whole tables (λ t so. refl) are.sound;
       few = omega (arith, no_more most whole tables, are.few);
       marks = each_group (λ g. All (IsMark lengths g.kind) g.marks) most whole tables (λ t so. are_placed lengths most whole t so are.there) are.sound;
       rising = each_group (λ g. IsStrictlyIncreasing (map mark_place g.marks)) most whole tables (λ t so. are_rising most whole t are.climbing) are.sound;
@@ -295,13 +296,14 @@ no_groups asked found = by_asked asked.mft
     by_asked true = rw (no_owners (systems_of found) found) refl
     by_asked false = refl
 
+-- mft is the last kind
 others : List GroupKind
-others = GptGroup ∷ NtfsGroup ∷ XfsGroup ∷ BtrfsGroup ∷ LvmGroup ∷ ExtGroup ∷ ExtinodeGroup ∷ Xfs5Group ∷ BtrfstreeGroup ∷ []
+others = take (group_place MftGroup) all_groups
 
 but_for : (asked : Kinds) (found : List Sighting) → groups_of asked found ≡ flat_map (groups_asked asked found) others
 unfolding others
 but_for asked found =
-    flat_map-append (groups_asked asked found) (GptGroup ∷ NtfsGroup ∷ XfsGroup ∷ BtrfsGroup ∷ LvmGroup ∷ ExtGroup ∷ ExtinodeGroup ∷ Xfs5Group ∷ BtrfstreeGroup ∷ []) (MftGroup ∷ [])
+    flat_map-append (groups_asked asked found) (take (group_place MftGroup) all_groups) (MftGroup ∷ [])
     ∙ ap (λ (l : List Group). flat_map (groups_asked asked found) others ++ (l ++ [])) (no_groups asked found) ∙ append-nil (flat_map (groups_asked asked found) others)
 
 end_of : ℕ → List GroupKind → ℕ
@@ -315,13 +317,24 @@ then_from lengths asked found rest are n (kind ∷ kinds) rise from =
     subst (AreFrom lengths n) (sym (append_assoc (groups_asked asked found kind) (flat_map (groups_asked asked found) kinds) rest))
     (joined lengths n kind (groups_asked asked found kind) (flat_map (groups_asked asked found) kinds ++ rest) rise.0 (asked_of lengths asked found kind are) (then_from lengths asked found rest are (group_place kind + 1) kinds rise.1 from))
 
-others_rise : Rise 0 others
-unfolding Rise others
-others_rise = (omega arith, (omega arith, (omega arith, (omega arith, (omega arith, (omega arith, (omega arith, (omega arith, (omega arith, tt)))))))))
+rises : ℕ → List GroupKind → Bool
+rises n [] = true
+rises n (kind ∷ kinds) = nat_le n (group_place kind) && rises (group_place kind + 1) kinds
 
-tables_from : (lengths : List ℕ) (records : Records) → AreRecords lengths records → AreFrom lengths 9 (groups_by records.whole records.tables)
+rise_of : (n : ℕ) (kinds : List GroupKind) → rises n kinds ≡ true → Rise n kinds
+unfolding Rise rises
+rise_of n [] are = tt
+rise_of n (kind ∷ kinds) are =
+    let parts = and_parts (nat_le n (group_place kind)) (rises (group_place kind + 1) kinds) are in
+    (leb-true n (group_place kind) parts.0, rise_of (group_place kind + 1) kinds parts.1)
+
+others_rise : Rise 0 others
+unfolding others rises
+others_rise = rise_of 0 others refl
+
+tables_from : (lengths : List ℕ) (records : Records) → AreRecords lengths records → AreFrom lengths (group_place MftGroup) (groups_by records.whole records.tables)
 tables_from lengths records are =
-    subst (AreFrom lengths 9) (append-nil (groups_by records.whole records.tables)) (joined lengths 9 MftGroup (groups_by records.whole records.tables) [] (omega arith) (of_tables lengths records are) (none_from lengths 10))
+    subst (AreFrom lengths (group_place MftGroup)) (append-nil (groups_by records.whole records.tables)) (joined lengths (group_place MftGroup) MftGroup (groups_by records.whole records.tables) [] (omega arith) (of_tables lengths records are) (none_from lengths (group_place MftGroup + 1)))
 
 pub are_all : (lengths : List ℕ) (asked : Kinds) (found : List Sighting) (records : Records) → AreSightings lengths found → AreRecords lengths records → AreGroups lengths (groups_of asked found ++ groups_by records.whole records.tables)
 unfolding end_of others

@@ -49,7 +49,7 @@ const VOLUME: MftBoot = MftBoot {
 };
 
 // Puts bytes into a block from a place on, as far as there is room.
-fn put(block: &mut [u8], at: usize, bytes: &[u8]) {
+pub fn put(block: &mut [u8], at: usize, bytes: &[u8]) {
     for (to, from) in block.iter_mut().skip(at).zip(bytes) {
         *to = *from;
     }

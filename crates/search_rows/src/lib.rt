@@ -2,7 +2,7 @@
 //!
 //! What each answers was worked out by hand: `products` the sets of a plan by rank, `prefixes` which beginnings of slot
 //! lists may pass, `row_counts` and `many_sets` the rows of sets, `listings` pages, `sampled` what rows that are kept refuse, `surveys` the
-//! plans of images, and `extinodes` and `trees` those of inodes of ext4 and of tree blocks of btrfs.
+//! plans of images, and `extinodes`, `trees` and `ntfs` those of inodes of ext4, of tree blocks of btrfs and of file records of NTFS.
 //! The tests stand here, since a library with tests is proved a second time with them. Their plans stand in `plans`,
 //! lists and images in `objects`, and what surveys ask for in `surveying`.
 #![tactic(auto)]
@@ -13,6 +13,8 @@ mod extinodes;
 mod listings;
 #[cfg(test)]
 mod many_sets;
+#[cfg(test)]
+mod ntfs;
 #[cfg(test)]
 mod objects;
 #[cfg(test)]

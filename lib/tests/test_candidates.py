@@ -29,7 +29,7 @@ from reraid_try.evidence.images import Image
 from reraid_try.evidence.maps import Map
 from reraid_try.opening import Opened
 from reraid_try.options import Options
-from reraid_try.policy import cures
+from reraid_try.policy import relaxations
 from reraid_try.policy.hunt import Hunt
 from reraid_try.policy.shapes import Shape
 from reraid_try.policy.trials import Trial
@@ -101,7 +101,7 @@ def whole(clean: bool | None = True, longest: int = 1 << 20, kind: str = "xfs") 
     return Verdict([Finding("", kind, clean, "said", (Piece(0, 1000),))], Wholes(1, int(longest > 0), longest), [], 1000, 10, 100)
 
 
-def candidate(text: str = SET, verdict: Verdict | None = None, chosen: Sequence[cures.Cure] = (), number: int = 1, rank: int = 0,
+def candidate(text: str = SET, verdict: Verdict | None = None, chosen: Sequence[relaxations.Relaxation] = (), number: int = 1, rank: int = 0,
               **values: object) -> Candidate:
     """A candidate of a trial."""
     word = read_word(text)
@@ -125,17 +125,17 @@ class OfCandidates(unittest.TestCase):
 
     def test_most_marks_left_out(self) -> None:
         plan = plan_of(XFS, EXT)
-        out = Trial(Shape("5", 3), (cures.group_cures(plan, True)[1],))
+        out = Trial(Shape("5", 3), (relaxations.group_relaxations(plan, True)[1],))
         self.assertEqual(out.out, frozenset({0}))
         self.assertTrue(left_most(out, plan, (Held("xfs"), Held("ext", 0, 1, 0))))
         self.assertTrue(left_most(out, plan, (Held("xfs", 0, 1, 2), Held("ext"))))
         self.assertFalse(left_most(out, plan, (Held("xfs", 0, 2, 0), Held("ext"))))
         self.assertFalse(left_most(Trial(Shape("5", 3)), plan, (Held("xfs"), Held("ext"))))
-        self.assertFalse(left_most(Trial(Shape("5", 3), (cures.group_cures(plan, False)[0],)), plan, (Held("xfs"), Held("ext"))))
+        self.assertFalse(left_most(Trial(Shape("5", 3), (relaxations.group_relaxations(plan, False)[0],)), plan, (Held("xfs"), Held("ext"))))
 
     def test_less_than_half_of_the_marks_left_out(self) -> None:
         plan = plan_of(XFS, NTFS)
-        out = Trial(Shape("5", 3), (cures.group_cures(plan, True)[0],))
+        out = Trial(Shape("5", 3), (relaxations.group_relaxations(plan, True)[0],))
         self.assertEqual((out.out, left_most(out, plan, (Held("xfs"), Held("ntfs")))), (frozenset({0}), False))
 
     def test_one_sign_less_then(self) -> None:
@@ -361,7 +361,7 @@ class Damaged(unittest.TestCase):
     def test_lesser(self) -> None:
         it = damage.lesser(candidate("6:ls-6:after-q:128:2048:0,1,2,3", unsound=9), frozenset({3}))
         self.assertEqual((it.word.text, it.listed and it.listed.text), (SET, "6:ls-6:after-q:128:2048:0,1,2,-"))
-        self.assertEqual((it.trial.loosened, it.trial.shape.missing, it.unsound, it.whole and it.whole.unsound), (["without image 3"], 1, None, 9))
+        self.assertEqual((it.trial.relaxed, it.trial.shape.missing, it.unsound, it.whole and it.whole.unsound), (["without image 3"], 1, None, 9))
 
     def test_no_sign_beside_one_without_unsound_rows(self) -> None:
         """A set has no sign where it has none of its unsound rows without an image, as long as parity still tells, and no less speaks for that."""

@@ -12,7 +12,7 @@ from reraid_try.calls.plans import Plan
 from reraid_try.calls.surveys import Request
 from reraid_try.checks.rows import Bounds, Near, Turned
 from reraid_try.evidence.images import Image
-from reraid_try.policy import cures
+from reraid_try.policy import relaxations
 from reraid_try.policy.shapes import Shape, Tiers
 from reraid_try.report.diagnosis import Diagnosis
 from tests.standin import Reply, Standin, Told, plan_of, put
@@ -59,7 +59,7 @@ class Nearest(unittest.TestCase):
         def made(request: Request) -> Plan:
             return plan.without(request.out).having(misfits=request.number("misfits"), window=request.number("window", 100000))
         told = types.SimpleNamespace(tiers=lambda: Tiers(shapes), speak_for=lambda shape: shape.members == 3)
-        asking = types.SimpleNamespace(request=lambda _: BASE, cures=lambda _: [cures.half_window(plan), cures.misfits()])
+        asking = types.SimpleNamespace(request=lambda _: BASE, relaxations=lambda _: [relaxations.half_window(plan), relaxations.misfits()])
         for name, value in (("surveys", types.SimpleNamespace(plan=made)), ("asking", asking), ("plan", plan), ("shapes", told),
                             ("questions", types.SimpleNamespace(is_unsound=lambda _: unsound)),
                             ("evidence", types.SimpleNamespace(images=[Image(f"i{k}", k, 8000) for k in range(4)], end=1000))):
@@ -67,7 +67,7 @@ class Nearest(unittest.TestCase):
         return Diagnosis(hunt, report, 60, 1), cast(OfPlan, hunt).standin, report
 
     def test_by_rows(self) -> None:
-        """What landmarks allow with nothing loosened, and with what leaves out landmarks or lets them contradict, and nothing else; only where there
+        """What landmarks allow with nothing relaxed, and with what leaves out landmarks or lets them contradict, and nothing else; only where there
         are landmarks."""
         found, standin, _ = self.of_hunt(with_five, Shape("5", 3))
         near, = found.by_rows(found.shapes())

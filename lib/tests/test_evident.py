@@ -25,7 +25,7 @@ from reraid_try.evidence.tables import Partition, Table
 from reraid_try.evidence.ties import Ties
 from reraid_try.evidence.unlike import Unlike
 from reraid_try.options import Options
-from reraid_try.policy import cures
+from reraid_try.policy import relaxations
 from reraid_try.policy import evident as evident_module
 from reraid_try.policy.evident import Evident, Later, Part
 from reraid_try.policy.plain import Aim, Span, Unsound
@@ -73,8 +73,8 @@ class Without(Evident):
         later += [Later(aim, cast(Any, None))] * bool(aim.moved)
         return self.order.index(aim) in self.good
 
-    def loosen(self, it: Later) -> bool:
-        """What is loosened of an aim says enough where that is stated, behind all aims."""
+    def relax(self, it: Later) -> bool:
+        """What is relaxed of an aim says enough where that is stated, behind all aims."""
         self.tried.append(it.aim)
         return len(self.order) + self.order.index(it.aim) in self.good
 
@@ -97,7 +97,7 @@ class Order(unittest.TestCase):
         self.assertEqual(self.tried(frozenset({1}), first, again, other), (True, [0, 1, 2]))
 
     def test_where_data_begin(self) -> None:
-        """Of aims that differ in that alone all are tried before anything is loosened, and then the next ones."""
+        """Of aims that differ in that alone all are tried before anything is relaxed, and then the next ones."""
         one, two, other = (Aim((0, 1, 2), Span(0, 9), "why", moved=moved) for moved in ((0, 8), (8, 16), ()))
         self.assertEqual(self.tried(frozenset(), one, two, other), (False, [0, 1, 0, 1, 2]))
         self.assertEqual(self.tried(frozenset({1}), one, two, other), (True, [0, 1]))
@@ -128,7 +128,7 @@ class Attempts(unittest.TestCase):
         self.times: list[int] = []
 
         def step(it: Step, _hunt: Any) -> bool:
-            """A listing with so much loosened."""
+            """A listing with so much relaxed."""
             asked.append(f"list {it.count}" if it.only is None else it.only.__name__)
             hunt.cut_short |= {"a plan"} if late else set()
             self.times.append(hunt.program.seconds)
@@ -147,7 +147,7 @@ class Attempts(unittest.TestCase):
         shapes = (shape,) if isinstance(shape, Shape) else shape
         aim = Aim((0, 1, 2), Span(0, 9), "why", shapes, tied=tied)
         if not it.plainly(cast(Any, hunt), aim, 0):
-            it.loosened(cast(Any, hunt), aim, 0)
+            it.relaxed(cast(Any, hunt), aim, 0)
         return asked
 
     def test_marks_and_parity(self) -> None:
@@ -164,7 +164,7 @@ class Attempts(unittest.TestCase):
                          (["list 0", "zeros", "again", "list 0", "list 1", "list 2"], [10, 60, 10, 10]))
 
     def test_what_is_enough(self) -> None:
-        """A listing, or what zeros allow, wherever it is asked; what is content once something is loosened."""
+        """A listing, or what zeros allow, wherever it is asked; what is content once something is relaxed."""
         self.assertEqual(self.order(Shape("5", 6), True, ends="list 0"), ["list 0"])
         self.assertEqual(self.order(Shape("5", 6), True, ends="zeros"), ["list 0", "zeros"])
         self.assertEqual(self.order(Shape("5", 6), False, ends="zeros"), ["zeros"])
@@ -202,7 +202,7 @@ class Attempts(unittest.TestCase):
             self.assertEqual(self.order(shapes, True, content, tied=False), wanted)
         self.assertEqual(self.order((Shape("5", 3), *shapes), True)[:4], ["list 0", "list 0", *then])
 
-    def test_what_is_loosened_of_what_is_content(self) -> None:
+    def test_what_is_relaxed_of_what_is_content(self) -> None:
         """The shapes of which a candidate has a sign already, and no others; all where none has."""
         asked: list[tuple[Shape, ...]] = []
 
@@ -218,7 +218,7 @@ class Attempts(unittest.TestCase):
             tested = [types.SimpleNamespace(score=Score.CHECKED, found=found, trial=types.SimpleNamespace(shape=shape)) for shape in signed]
             search = types.SimpleNamespace(options=Options(("a",)), take_step=step, tested=tested, is_hopeless=lambda _: False)
             it = Evident(cast(Any, search))
-            it.loosened(cast(Any, types.SimpleNamespace(program=types.SimpleNamespace())), Aim((0, 1, 2), Span(0, 9), "why", shapes), 0)
+            it.relaxed(cast(Any, types.SimpleNamespace(program=types.SimpleNamespace())), Aim((0, 1, 2), Span(0, 9), "why", shapes), 0)
             self.assertEqual(asked, wanted)
 
     def test_no_parity_or_no_marks(self) -> None:
@@ -265,7 +265,7 @@ class ByPlaces(unittest.TestCase):
         found: list[Any] = []
 
         def take(_hunt: Any, trial: Trial, sets: Any, _words: Any) -> bool:
-            asked.append(([it.text for it in sets], trial.loosened[1:], trial.request.get("delays") if trial.request else ""))
+            asked.append(([it.text for it in sets], trial.relaxed[1:], trial.request.get("delays") if trial.request else ""))
             tested.extend(found)
             return whole
         turn = mock.Mock(patterns=(("la", "none"),))
@@ -526,14 +526,14 @@ class Sought(unittest.TestCase):
             done.append(f"plain {before} {it.search.why}")
             return ends
 
-        def loosened(_hunt: Any, _aim: Aim, before: int) -> None:
-            done.append(f"loosened {before} {it.search.why}")
+        def relaxed(_hunt: Any, _aim: Aim, before: int) -> None:
+            done.append(f"relaxed {before} {it.search.why}")
             trial = types.SimpleNamespace(shape=types.SimpleNamespace(parity=True))
             it.search.tested.extend(cast(Any, types.SimpleNamespace(score=score, trial=trial, found=types.SimpleNamespace(encrypted=[])))
                                     for score in found)
         setattr(it, "copies", copies)
         setattr(it, "plainly", plainly)
-        setattr(it, "loosened", loosened)
+        setattr(it, "relaxed", relaxed)
 
         def with_all(_hunt: Any, _aim: Aim, unsound: Unsound, before: int) -> bool:
             done.append(f"all {unsound.images} {before}")
@@ -543,7 +543,7 @@ class Sought(unittest.TestCase):
             later: list[Later] = []
             told = it.seek(aim, later)
             self.assertEqual([one.aim for one in later], [aim] * bool(aim.moved and not ends))
-            told = any(it.loosen(one) for one in later) or told
+            told = any(it.relax(one) for one in later) or told
         self.assertEqual((report.lines, it.search.why), ([f"trying first: {aim.why}"], ""))
         return told, done, hunt.call_args
 
@@ -551,24 +551,24 @@ class Sought(unittest.TestCase):
         """Copies first where they are asked for, and then the shapes, unless that was enough; candidates of before say nothing."""
         aim = Aim((2, 0), Span(100, 300, True), "why", asked=(("chunks", "8"),), tied=True)
         told, done, begun = self.seek(aim, Score.CHECKED)
-        self.assertEqual((told, done), (True, ["evidence", "plain 1 why", "loosened 1 why"]))
+        self.assertEqual((told, done), (True, ["evidence", "plain 1 why", "relaxed 1 why"]))
         self.assertEqual(([it.number for it in begun[0][2]], begun[0][0].seconds), ([2, 0], 10))
         self.assertEqual(begun[1], {"start": 100, "asked": {"chunks": "8"}, "tied": True, "shared": "the surveys"})
         self.assertEqual(self.seek(aim, Score.KNOWN)[0], False)
         copied = Aim((2, 0), Span(0, 900), "why", copied=True)
-        self.assertEqual(self.seek(copied)[:2], (False, ["evidence", "copies 1", "plain 1 why", "loosened 1 why"]))
-        self.assertEqual(self.seek(dataclasses.replace(aim, moved=(8, 0)), Score.CHECKED)[:2], (True, ["evidence", "plain 1 why", "loosened 1 why"]))
+        self.assertEqual(self.seek(copied)[:2], (False, ["evidence", "copies 1", "plain 1 why", "relaxed 1 why"]))
+        self.assertEqual(self.seek(dataclasses.replace(aim, moved=(8, 0)), Score.CHECKED)[:2], (True, ["evidence", "plain 1 why", "relaxed 1 why"]))
         self.assertEqual(self.seek(aim, ends=True)[:2], (False, ["evidence", "plain 1 why"]))
         self.assertEqual(self.seek(copied, ends=True)[:2], (False, ["evidence", "copies 1"]))
         for images in ((0, 1, 2), (0, 2)):
             every = dataclasses.replace(aim, unsound=Unsound(images, Shape("5", 3)))
-            then = ["loosened 1 why"] * (1 not in images)
+            then = ["relaxed 1 why"] * (1 not in images)
             self.assertEqual(self.seek(every)[1], ["evidence", "plain 1 why", f"all {images} 1", *then])
             self.assertEqual(self.seek(every, ends=True)[1], ["evidence", "plain 1 why", f"all {images} 1"])
 
     def with_all(self, images: tuple[int, ...], has: int | None) -> tuple[list[Any], list[Any], list[str], bool]:
         """The trials of an aim over images 2 and 0 with all of a family, the hunts that were begun for them, what was said, and whether a candidate
-        with all of them has a sign, where the trial with so many things loosened finds it, 0 of which is one that was there before."""
+        with all of them has a sign, where the trial with so many things relaxed finds it, 0 of which is one that was there before."""
         it, report = evident([Image(name, number, 900, first=8) for number, name in enumerate("abc")], NoTools({}), Options(("a",), seconds=60))
         setattr(it.search, "say_late", None)
         true, less = (cast(Any, types.SimpleNamespace(score=score, word=types.SimpleNamespace(images=those)))
@@ -606,11 +606,11 @@ class Sought(unittest.TestCase):
                 self.assertEqual(said, [why] * (count > 0))
 
     def test_bad_rows(self) -> None:
-        """What is loosened then: rows that may be bad, and what one kind of group needs."""
+        """What is relaxed then: rows that may be bad, and what one kind of group needs."""
         step = with_bad_rows(2, Shape("5", 3))
-        asked = (cures.bad_rows(9, [0]), cures.no_records(), cures.misfits(), cures.delays())
+        asked = (relaxations.bad_rows(9, [0]), relaxations.no_records(), relaxations.misfits(), relaxations.delays())
         self.assertEqual((step.shapes, step.count, step.every), ((Shape("5", 3),), 2, False))
-        self.assertEqual([bool(step.only and step.only(cure)) for cure in asked], [True, True, False, False])
+        self.assertEqual([bool(step.only and step.only(relaxation)) for relaxation in asked], [True, True, False, False])
 
     def test_time_of_a_question(self) -> None:
         """A sixth of that of a trial, and five seconds at least."""

@@ -50,7 +50,7 @@ class Halves(unittest.TestCase):
         self.assertEqual(list(mirrors.without_one([], [(1, 4)], (0, 1, 4))), [])
 
     def test_order(self) -> None:
-        """Each way is tried with nothing loosened before one is with something, and what is content ends that."""
+        """Each way is tried with nothing relaxed before one is with something, and what is content ends that."""
         for good, wanted in ((None, [(1, 0), (4, 0), (1, 1), (4, 1)]), ((4, 0), [(1, 0), (4, 0)])):
             tried: list[tuple[int, int]] = []
             search: Any = types.SimpleNamespace(images=IMAGES, options=OPTIONS, tested=[])

@@ -27,8 +27,8 @@ from reraid_try.checks.verdicts import Score
 from reraid_try.checks.volumes import Room
 from reraid_try.errors import OutsideError, Stopped
 from reraid_try.options import Options
-from reraid_try.policy import cures
-from reraid_try.policy.cures import Family
+from reraid_try.policy import relaxations
+from reraid_try.policy.relaxations import RelaxationKind
 from reraid_try.policy.evident import Evident
 from reraid_try.policy.search import Search
 from reraid_try.policy.shapes import Shape
@@ -187,7 +187,7 @@ class Runs(InFolder):
         search.tests = cast(Any, types.SimpleNamespace(test=lambda _: [], without_damaged=lambda _: [], tell=None,
                                                        put_off=[types.SimpleNamespace(word=read_word(TRUE))]))
         hunt = cast(Any, types.SimpleNamespace(evidence=types.SimpleNamespace(pairs=None)))
-        for chosen, known in (((cures.told("no landmarks", Family.BARE),), set()), ((), {TRUE})):
+        for chosen, known in (((relaxations.told("no landmarks", RelaxationKind.BARE),), set()), ((), {TRUE})):
             trial = Trial(Shape("5", 3), chosen)
             search.take(hunt, trial, [Ranked(3, TRUE)], lambda it: (read_word(it.text), read_word(it.text)))
             self.assertEqual(search.known, known)

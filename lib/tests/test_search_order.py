@@ -17,8 +17,8 @@ from reraid_try.evidence.families import Reshape
 from reraid_try.evidence.hints import Hint, Source, What
 from reraid_try.evidence.images import Image
 from reraid_try.options import Options
-from reraid_try.policy import cures
-from reraid_try.policy.cures import Family
+from reraid_try.policy import relaxations
+from reraid_try.policy.relaxations import RelaxationKind
 from reraid_try.policy.mirrors import Grouped
 from reraid_try.policy.search import Search
 from reraid_try.policy.shapes import Shape, Tiers
@@ -170,7 +170,7 @@ class Steps(unittest.TestCase):
     damage, parity = "damage 4", ["5.0+0.0 0", "5.0 0", "6.1+5.0 0 quick"]
     late, again = ["5.0+0.0 0", "6.1+5.0 0 quick"], "again"
     stays = ["5.0 stays", "0.0 stays", "6.1 stays", "5.0 stays", "6.2 stays"]
-    loosened = ["5.0+0.0 1", "5.0+0.0 2", "5.0 3", "6.1+5.0 1 quick", "6.1+5.0 2 quick"]
+    relaxed = ["5.0+0.0 1", "5.0+0.0 2", "5.0 3", "6.1+5.0 1 quick", "6.1+5.0 2 quick"]
     rest = ["6.2 0", "6.1+5.0+6.2 1"]
 
     def order(self, images: int, best: Callable[[list[str]], Score], run: str, exact: Sequence[Shape] = (FIVE,), ends: str = "", alike: bool = False,
@@ -203,8 +203,8 @@ class Steps(unittest.TestCase):
 
     def test_first_trials(self) -> None:
         """What is plain comes first: parity, the rest, and RAID 10 with a disk lost too of an odd number of images; nothing of that where level 10 is
-        not asked for. Each takes a part of the time of a trial; parity that needs more has it then, before anything is loosened."""
-        then = [self.again, *self.late, *self.stays, *self.loosened]
+        not asked for. Each takes a part of the time of a trial; parity that needs more has it then, before anything is relaxed."""
+        then = [self.again, *self.late, *self.stays, *self.relaxed]
         odd = [self.damage, *self.parity, "6.2 0", "mirrors 0", "mirrors 1", *then, "diagnosis", *self.rest]
         self.assertEqual((self.order(3, lambda _: Score.NOTHING, "first_trials"), self.short), ((False, odd), 11))
         even = [self.damage, *self.parity, "6.2 0", "mirrors 0", *then, "diagnosis", "mirrors 1", *self.rest]
@@ -219,7 +219,7 @@ class Steps(unittest.TestCase):
         self.assertEqual(done[:8], [self.damage, "mirrors 0", "mirrors 1", *self.parity, "6.2 0", self.again])
 
     def test_where_first_trials_end(self) -> None:
-        """Where a candidate is content, with something loosened: what is plain is gone through, but for the rest where parity finds one."""
+        """Where a candidate is content, with something relaxed: what is plain is gone through, but for the rest where parity finds one."""
         few = self.order(4, lambda done: Score.CHECKED if "5.0+0.0 0" in done else Score.NOTHING, "first_trials", levels=("5",))
         self.assertEqual(few, (True, [self.damage, *self.parity, "5.0+0.0 1"]))
         plain = self.order(4, lambda done: Score.CHECKED if "6.2 0" in done else Score.NOTHING, "first_trials")
@@ -303,8 +303,8 @@ class Damage(unittest.TestCase):
         """Whether the search is at its end, and the trials, of which one may be enough."""
         it, done = search(), list[str]()
 
-        def attempt(_hunt: Any, shape: Shape, chosen: tuple[cures.Cure, ...], few: Any, tested_by: Any = None) -> bool:
-            names = " and ".join(cure.name for cure in chosen)
+        def attempt(_hunt: Any, shape: Shape, chosen: tuple[relaxations.Relaxation, ...], few: Any, tested_by: Any = None) -> bool:
+            names = " and ".join(relaxation.name for relaxation in chosen)
             done.append(f"{shape.levels} {names}: {few.number('window')} {few.out} by {tested_by.number('window')}")
             return len(done) == ends
         asking = types.SimpleNamespace(first_rows=lambda _: BASE.having(window=65536), request=lambda _: BASE.having(window=90000))
@@ -344,7 +344,7 @@ class Mirrored(unittest.TestCase):
             it = search(members=asked)
             with mock.patch("reraid_try.policy.search.Mirrors") as made, mock.patch.object(it, "take", return_value=False):
                 made.return_value.listing.return_value = Listing((), 0, True)
-                over = types.SimpleNamespace(asking=types.SimpleNamespace(unread_cure=lambda *_: ()))
+                over = types.SimpleNamespace(asking=types.SimpleNamespace(unread_relaxation=lambda *_: ()))
                 self.assertFalse(it.mirrors(cast(Any, over), Copied((NEAR_2,), members)))
             self.assertEqual(made.return_value.listing.call_count, wanted)
 
@@ -361,7 +361,7 @@ class Mirrored(unittest.TestCase):
             return grouped
         with mock.patch("reraid_try.policy.search.Mirrors") as made, mock.patch.multiple(it, take=taken, grouped=group):
             made.return_value.listing.return_value = Listing(tuple(map(Ranked, range(9), texts)), 9, True)
-            over = types.SimpleNamespace(asking=types.SimpleNamespace(unread_cure=lambda *_: ()))
+            over = types.SimpleNamespace(asking=types.SimpleNamespace(unread_relaxation=lambda *_: ()))
             return it.mirrors(cast(Any, over), Copied((NEAR_2,), 4, 1)), done
 
     def test_what_is_listed(self) -> None:
@@ -400,10 +400,10 @@ class Attempts(unittest.TestCase):
         def may_list(*_: Any) -> bool:
             asked.append("may")
             return may
-        asking = types.SimpleNamespace(unread_cure=lambda *_: ())
+        asking = types.SimpleNamespace(unread_relaxation=lambda *_: ())
         over = types.SimpleNamespace(to_list=lambda *_: plan, may_list=may_list, listing=listed, asking=asking)
         with mock.patch.object(it, "take", take):
-            told = it.attempt(cast(Any, over), FIVE, (cures.bad_rows(99, (0,)), cures.misfits()), BASE, last, tested_by)
+            told = it.attempt(cast(Any, over), FIVE, (relaxations.bad_rows(99, (0,)), relaxations.misfits()), BASE, last, tested_by)
         self.printed = said(it)
         self.search = it
         return told, asked, taken
@@ -416,15 +416,15 @@ class Attempts(unittest.TestCase):
         self.assertEqual(self.printed, ["skipped: RAID 5 of 3 disks; relaxed: badrows 99 and 8 mismatches"])
         self.assertEqual(self.attempt(may=False, last=True)[1], ["listing"])
         told, asked, (trial,) = self.attempt()
-        self.assertEqual((told, asked, trial.number, trial.loosened, trial.request), (True, ["may", "listing"], 1, ["badrows 99", "8 mismatches"],
-                                                                                      BASE.having(window=7)))
+        self.assertEqual((told, asked, trial.number, trial.relaxed, trial.request),
+                         (True, ["may", "listing"], 1, ["badrows 99", "8 mismatches"], BASE.having(window=7)))
         self.assertEqual(self.printed, ["step 1: RAID 5 of 3 disks; relaxed: badrows 99 and 8 mismatches: 0 of 9 layouts pass"])
         self.assertEqual((self.search.shapes_tried, self.search.was_late), ({"RAID 5 of 3 disks"}, False))
 
     def test_bad_rows_that_were_found(self) -> None:
         """The trial names how many rows it took."""
         _, _, (trial,) = self.attempt(listing=Listing((), 9, False, "late", bad_rows=32))
-        self.assertEqual((trial.loosened, self.search.was_late), (["badrows 32", "8 mismatches"], True))
+        self.assertEqual((trial.relaxed, self.search.was_late), (["badrows 32", "8 mismatches"], True))
         _, _, (trial,) = self.attempt(listing=Listing((), 9, False, "late", bad_rows=32), tested_by=None)
         self.assertEqual(trial.request, BASE.having(badrows=32))
         _, _, (trial,) = self.attempt(tested_by=None)
@@ -438,7 +438,7 @@ class Attempts(unittest.TestCase):
         """Once something did not come to its end that is so for good."""
         it = search()
         self.assertEqual((it.number, it.said_on, it.was_late, it.solved), (0, False, False, False))
-        over = cast(Any, types.SimpleNamespace(asking=types.SimpleNamespace(unread_cure=lambda *_: ())))
+        over = cast(Any, types.SimpleNamespace(asking=types.SimpleNamespace(unread_relaxation=lambda *_: ())))
         late = [(it.say_trial(over, Trial(FIVE), Listing((), 9, whole)).number, it.was_late) for whole in (True, False, True)]
         self.assertEqual(late, [(1, False), (2, True), (3, True)])
         it = search()
@@ -493,7 +493,7 @@ class Seen(InFolder):
         self.assertEqual(it.hunts, both)
 
     def test_groups_of_copies(self) -> None:
-        """They are said, and searched as a RAID 0 of one image of each: with up to two things loosened, and then without landmarks."""
+        """They are said, and searched as a RAID 0 of one image of each: with up to two things relaxed, and then without landmarks."""
         over = types.SimpleNamespace(evidence=types.SimpleNamespace(images=search(4).images, start=64))
         grouped = Grouped(((0, 2), (1,)), 2, (2048,))
         steps = ["evidence", "step 0", "step 1", "step 2"]
@@ -567,7 +567,7 @@ class Taken(unittest.TestCase):
 
     def test_what_is_kept_without_landmarks(self) -> None:
         """What shows nothing is kept where parity speaks for it alone, or copies do; what was put off may be listed again."""
-        bare = (cures.told("no landmarks", Family.BARE),)
+        bare = (relaxations.told("no landmarks", RelaxationKind.BARE),)
         for shape, pairs, kept in ((FIVE, None, 1), (NONE, None, 0), (NONE, object(), 1)):
             text = "5:ls:none:8:0:0,1,2" if shape is FIVE else "0:plain:none:8:0:0,1,2"
             self.assertEqual(len(self.take(Trial(shape, bare), [text], pairs=pairs, found=False)[1].tested), kept)

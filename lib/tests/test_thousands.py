@@ -134,7 +134,7 @@ class Thousands(InFolder):
         return done, report.lines, tested
 
     def test_trial(self) -> None:
-        """The sets with the most are tested, with their reason, by what is asked for where nothing is loosened."""
+        """The sets with the most are tested, with their reason, by what is asked for where nothing is relaxed."""
         hunt = self.hunt({"0": [5], "5": [14, 9, 14], "6": [9]}, 16)
         done, said, tested = self.attempted(hunt)
         why = "14 of 16 inodes of an XFS lie at the places that their numbers state; with the next layout, 9 do"

@@ -128,7 +128,7 @@ class Page:
         return section("Evidence from the images", hints) if hints else ""
 
     def trials(self) -> str:
-        """What was tried: the reasons, what was loosened, and what came of it."""
+        """What was tried: the reasons, what was relaxed, and what came of it."""
         rows = [(str(it["number"]), text(it["shape"]), text(it.get("reason", "")), text(" and ".join(it["loosened"]) or "nothing"),
                  f"{it['listed']:,}" + ("" if it["total"] is None else f" of {it['total']:,}"), text(self.outcome(it)))
                 for it in self.record.of("trial")]

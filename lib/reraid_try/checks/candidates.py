@@ -127,8 +127,8 @@ class Candidate:
 
     @property
     def order(self) -> tuple[int, int, int]:
-        """What it is tested by: how much was loosened, the trial, the rank."""
-        return len(self.trial.cures), self.trial.number, self.rank
+        """What it is tested by: how much was relaxed, the trial, the rank."""
+        return len(self.trial.relaxations), self.trial.number, self.rank
 
     @property
     def fits(self) -> int:

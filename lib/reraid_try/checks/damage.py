@@ -4,8 +4,8 @@ import dataclasses
 from collections.abc import Mapping, Sequence
 
 from ..calls.sets import simplest
-from ..policy import cures
-from ..policy.cures import Family
+from ..policy import relaxations
+from ..policy.relaxations import RelaxationKind
 from .candidates import Candidate
 from .joints import duel
 from .verdicts import Score
@@ -48,5 +48,5 @@ def lesser(candidate: Candidate, images: frozenset[int]) -> Candidate:
     listed, trial, hunt = (candidate.listed or candidate.word).without(images), candidate.trial, candidate.hunt
     name = f"without {' and '.join(f'image {number}' for number in sorted(hunt.evidence.images[image].number for image in images))}"
     shape = dataclasses.replace(trial.shape, missing=listed.lost)
-    trial = dataclasses.replace(trial, shape=shape, cures=(*trial.cures, cures.told(name, Family.LEFT_OUT)))
+    trial = dataclasses.replace(trial, shape=shape, relaxations=(*trial.relaxations, relaxations.told(name, RelaxationKind.LEFT_OUT)))
     return Candidate(simplest(hunt.word(listed.text)), candidate.rank, trial, hunt, listed=listed, whole=candidate)

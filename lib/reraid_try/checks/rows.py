@@ -162,7 +162,7 @@ class Rows:
         return Bounds(self.row_of(near, 1), self.row_of(near, near.told.unsound))
 
     def whole(self, candidate: Candidate) -> str:
-        """In which rows of the whole window parity holds for a candidate, whatever was loosened; nothing for RAID 10, which has none."""
+        """In which rows of the whole window parity holds for a candidate, whatever was relaxed; nothing for RAID 10, which has none."""
         word, request = candidate.listed, candidate.trial.request
         if word is None or request is None or candidate.word.is_mirrored:
             return ""

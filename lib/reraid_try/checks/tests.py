@@ -261,7 +261,7 @@ class Tests:
         return [it for it in found if not it.doubtful]
 
     def test_late(self) -> list[Candidate]:
-        """Tests the sets that were put off, those with the least loosened first."""
+        """Tests the sets that were put off, those with the least relaxed first."""
         found, self.put_off, self.late = sorted(self.put_off, key=lambda it: it.order), [], True
         return self.test(found) if found else []
 

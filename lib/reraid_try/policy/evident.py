@@ -26,8 +26,8 @@ from ..evidence.shifts import Distances
 from ..evidence.ties import Ties, Told
 from ..evidence.unlike import Unlike
 from ..units import SECTOR
-from . import cures, mirrors, plain, proposed, stopped, thousands
-from .cures import Family
+from . import relaxations, mirrors, plain, proposed, stopped, thousands
+from .relaxations import RelaxationKind
 from .hunt import Hunt
 from .plain import Aim, Span, Unsound
 from .shapes import Shape
@@ -37,13 +37,13 @@ from .trials import Trial
 if TYPE_CHECKING:
     from .search import Search
 
-# So many things are loosened at most, one after the other, where evidence says which array is searched.
-MOST_LOOSENED = 2
+# So many things are relaxed at most, one after the other, where evidence says which array is searched.
+MOST_RELAXED = 2
 
 
 @dataclasses.dataclass(frozen=True)
 class Later:
-    """An aim that was tried with nothing loosened, and its hunt."""
+    """An aim that was tried with nothing relaxed, and its hunt."""
 
     aim: Aim
     hunt: Hunt
@@ -106,7 +106,7 @@ class Evident:
 
     def of_part(self, part: Part) -> bool:
         """The trials of a part; what comes later of images of which a candidate says enough is left. Of aims that are alike but for where the data
-        begin all are tried before anything is loosened. It says whether there is such a candidate."""
+        begin all are tried before anything is relaxed. It says whether there is such a candidate."""
         solved: set[int] = set()
         for _, alike in itertools.groupby(self.aims(part), key=lambda aim: bool(aim.moved)):
             later: list[Later] = []
@@ -114,7 +114,7 @@ class Evident:
                 if solved.isdisjoint(aim.images) and self.seek(aim, later):
                     solved |= set(aim.images)
             for it in later:
-                if solved.isdisjoint(it.aim.images) and self.loosen(it):
+                if solved.isdisjoint(it.aim.images) and self.relax(it):
                     solved |= set(it.aim.images)
         return bool(solved)
 
@@ -239,7 +239,7 @@ class Evident:
         return unlike.look(asked, images, shown, end, named)
 
     def seek(self, aim: Aim, later: list[Later]) -> bool:
-        """The trials of an aim; where it is one of several that are alike but for where the data begin, those with something loosened are left for
+        """The trials of an aim; where it is one of several that are alike but for where the data begin, those with something relaxed are left for
         later. It says whether a candidate says enough."""
         search = self.search
         search.report.say("reason", f"trying first: {aim.why}", images=list(aim.images), first=aim.span.first, end=aim.span.end, why=aim.why)
@@ -263,7 +263,7 @@ class Evident:
             if aim.moved:
                 later.append(Later(aim, hunt))
             else:
-                self.loosened(hunt, aim, before)
+                self.relaxed(hunt, aim, before)
         search.why = ""
         return any(map(enough, self.since(before)))
 
@@ -290,7 +290,7 @@ class Evident:
             hunt = Hunt(self.options, search.commands, self.within(unsound.images, aim.span), search.say_late, start=aim.span.first,
                         asked=dict(aim.asked), tied=True, shared=search.surveys)
         hunt.program.seconds = search.options.seconds
-        steps = (with_bad_rows(count, unsound.shape) for count in range(1, MOST_LOOSENED + 1))
+        steps = (with_bad_rows(count, unsound.shape) for count in range(1, MOST_RELAXED + 1))
         found = any(search.take_step(step, hunt) or self.has_all(unsound, before) for step in steps)
         search.why = why
         return found
@@ -299,10 +299,10 @@ class Evident:
         """A candidate that was tested since has a sign, with all images of a family in slots."""
         return any(it.score >= Score.CHECKED and set(unsound.images) <= set(it.word.images) for it in self.since(before))
 
-    def loosen(self, it: Later) -> bool:
-        """The trials of an aim with something loosened, which were left for later; it says whether a candidate says enough."""
+    def relax(self, it: Later) -> bool:
+        """The trials of an aim with something relaxed, which were left for later; it says whether a candidate says enough."""
         before, self.search.why = len(self.search.tested), it.aim.why
-        self.loosened(it.hunt, it.aim, before)
+        self.relaxed(it.hunt, it.aim, before)
         self.search.why = ""
         return any(map(enough, self.since(before)))
 
@@ -368,7 +368,7 @@ class Evident:
         if where is None:
             return False
         before = len(self.search.tested)
-        return self.placed(hunt, aim, where) or not self.is_content(before) and self.placed(hunt, aim, where, cures.DELAY)
+        return self.placed(hunt, aim, where) or not self.is_content(before) and self.placed(hunt, aim, where, relaxations.DELAY)
 
     def placed(self, hunt: Hunt, aim: Aim, where: Places, delay: int = 1) -> bool:
         """The sets that these places allow, with parity that stays for so many rows; it says whether a candidate is whole."""
@@ -380,11 +380,12 @@ class Evident:
             return False
         listing = Listing(tuple(Ranked(rank, word) for rank, word in enumerate(words)), None, True,
                           "those that the fewest rows of zeros contradict; no others were tested")
-        bare = cures.told("all landmarks (rows of zeros show the places of parity)", Family.BARE, [group.place for group in hunt.plan.groups])
+        places_of_groups = [group.place for group in hunt.plan.groups]
+        bare = relaxations.told("all landmarks (rows of zeros show the places of parity)", RelaxationKind.BARE, places_of_groups)
         # What a fresh NTFS numbers 0 is no reason to call its group one that does not hold.
         request = dataclasses.replace(hunt.asking.request(shape), records=True)
-        chosen = (bare, cures.delays()) if delay > 1 else (bare,)
-        trial = self.search.say_trial(hunt, Trial(shape, chosen, cures.loosened(request, chosen[1:])), listing)
+        chosen = (bare, relaxations.delays()) if delay > 1 else (bare,)
+        trial = self.search.say_trial(hunt, Trial(shape, chosen, relaxations.relaxed(request, chosen[1:])), listing)
         return self.search.take(hunt, trial, listing.sets, lambda it: (read_word(it.text), hunt.word(it.text)))
 
     def read_off(self, hunt: Hunt, aim: Aim, before: int) -> bool:
@@ -412,20 +413,20 @@ class Evident:
         rows = {value - base for value in values if base <= value < hunt.evidence.end}
         return sorted(row for row in rows if aim.begin is None or row <= aim.begin)
 
-    def loosened(self, hunt: Hunt, aim: Aim, before: int) -> None:
-        """The trials of the shapes of an aim with ever more loosened, until a candidate is whole, encrypted or content; of the shapes alone of which
+    def relaxed(self, hunt: Hunt, aim: Aim, before: int) -> None:
+        """The trials of the shapes of an aim with ever more relaxed, until a candidate is whole, encrypted or content; of the shapes alone of which
         one is content already, where there are such. `before` is how many candidates were tested before those of the aim."""
         if self.search.is_hopeless(self.told):
             return
         hunt.program.seconds = self.options.seconds
         content = tuple(shape for shape in aim.shapes if self.is_content(before, shape))
         aim = dataclasses.replace(aim, shapes=content or aim.shapes)
-        for count in range(1, MOST_LOOSENED + 1):
+        for count in range(1, MOST_RELAXED + 1):
             if self.take_step(aim, count, hunt, before) or self.is_content(before):
                 return
 
     def plainly(self, hunt: Hunt, aim: Aim, before: int) -> bool:
-        """The trials with nothing loosened; it says whether the search is at its end. What is listed comes before what zeros allow, but where it is
+        """The trials with nothing relaxed; it says whether the search is at its end. What is listed comes before what zeros allow, but where it is
         known to say nothing: P is the same in any order of the disks, so without landmarks it is Q alone that tells one. Where zeros may tell the
         order too a listing is asked for again, in the whole time of a trial, only if they do not."""
         by_q = any(LEVEL_6 in shape.telling for shape in aim.shapes)
@@ -446,7 +447,7 @@ class Evident:
         return not hunt.plan.groups and any(self.search.attempt_bare(hunt, shape) for shape in aim.shapes if not shape.parity)
 
     def plain_steps(self, aim: Aim, hunt: Hunt, before: int) -> bool:
-        """The trials of the shapes of an aim with nothing loosened. Where parity tells nothing at a shape, and no candidate is content, what one kind
+        """The trials of the shapes of an aim with nothing relaxed. Where parity tells nothing at a shape, and no candidate is content, what one kind
         of group needs, and parity that stays for several rows, come before the next shape, with another disk lost, of which more sets pass by few
         landmarks. Parity that stays is asked for too where a candidate of the shape is content, since of metadata in the first rows a checker is
         content without. It says whether nothing more is to be seen."""
@@ -460,7 +461,7 @@ class Evident:
         return self.is_closed(before)
 
     def take_step(self, aim: Aim, count: int, hunt: Hunt, before: int) -> bool:
-        """The trials of the shapes of an aim with so many things loosened; it says whether nothing more is to be seen."""
+        """The trials of the shapes of an aim with so many things relaxed; it says whether nothing more is to be seen."""
         return self.search.take_step(Step(aim.shapes, count), hunt) or self.is_closed(before)
 
     def is_closed(self, before: int) -> bool:

@@ -16,7 +16,7 @@ from ..evidence.places import Places
 from ..evidence.surveying import LargeSurveys, Shared, every_kind
 from ..options import Options
 from ..units import listed
-from .cures import Cure, Family, choices, loosened
+from .relaxations import Relaxation, RelaxationKind, choices, relaxed
 from .plans import Asking
 from .questions import Late, Questions
 from .shapes import Shape, Shapes
@@ -64,17 +64,17 @@ class Hunt:
         """The first plan, with the places of the images in this hunt in place of their numbers among all, and with landmarks of later kinds."""
         return self.surveys.plan(self.evidence.base.having(kinds=every_kind()))
 
-    def ways(self, shape: Shape, step: Step) -> Iterator[tuple[tuple[Cure, ...], Request]]:
-        """The requests of a step for a shape, in order, each with what is loosened at once. Where parity tells something, what changes it is loosened
+    def ways(self, shape: Shape, step: Step) -> Iterator[tuple[tuple[Relaxation, ...], Request]]:
+        """The requests of a step for a shape, in order, each with what is relaxed at once. Where parity tells something, what changes it is relaxed
         only as far as parity needs it, and at the offsets that need it; all else too, where every one is asked for."""
         every = step.every
         request = self.asking.request(shape, every or step.count == 0)
-        found = [cure for cure in self.asking.cures(shape, every, step.quick) if step.only is None or step.only(cure)]
+        found = [relaxation for relaxation in self.asking.relaxations(shape, every, step.quick) if step.only is None or step.only(relaxation)]
         for chosen in choices(found, step.count):
-            asked = loosened(request, chosen)
+            asked = relaxed(request, chosen)
             if every or not shape.parity:
                 yield chosen, asked
-            elif offsets := self.questions.needing(shape, [cure for cure in chosen if cure.rows], asked):
+            elif offsets := self.questions.needing(shape, [relaxation for relaxation in chosen if relaxation.rows], asked):
                 yield chosen, asked.having(offsets=listed(offsets))
 
     def to_list(self, shape: Shape, request: Request, last: bool = False) -> Plan | None:
@@ -145,5 +145,5 @@ class Hunt:
         if trial.request is None:
             return None
         request = dataclasses.replace(trial.request, out=())
-        halved = any(cure.family is Family.WINDOW for cure in trial.cures)
+        halved = any(relaxation.relaxes is RelaxationKind.WINDOW for relaxation in trial.relaxations)
         return self.surveys.plan(request.having(window=self.evidence.window) if halved else request)

@@ -21,7 +21,7 @@ MOST_GROUPINGS = 8
 # So many members may be missing at most, and chunks are so long at most where copies do not tell them.
 MOST_MISSING, MOST_CHUNK = 3, 2048
 COPIES = range(2, MOST_COPIES + 1)
-# Of several ways to leave images out all are tried with nothing loosened before one is with something.
+# Of several ways to leave images out all are tried with nothing relaxed before one is with something.
 PLAIN_FIRST = (range(1), range(1, 3))
 Group = tuple[int, ...]
 

@@ -1,4 +1,4 @@
-"""What is tried first: few trials, each for a reason that the images themselves give, with nothing loosened."""
+"""What is tried first: few trials, each for a reason that the images themselves give, with nothing relaxed."""
 
 import dataclasses
 from collections.abc import Iterable, Iterator, Sequence
@@ -13,7 +13,7 @@ from ..evidence.ties import Known, Told
 from ..evidence.unlike import Unlike
 from ..options import Options
 from ..units import SECTOR, listed
-from .cures import EACH_WINDOW
+from .relaxations import EACH_WINDOW
 from .mirrors import MOST_MISSING
 from .shapes import Shape
 

@@ -11,8 +11,8 @@ from ..errors import Refused
 from ..evidence import hints, readoff
 from ..evidence.readoff import NEAR_BEST, Fit, Form, Proposal, Sought, Vote
 from ..units import listed
-from . import cures, thousands
-from .cures import Family
+from . import relaxations, thousands
+from .relaxations import RelaxationKind
 from .hunt import Hunt
 from .shapes import Shape
 from .trials import Trial
@@ -115,7 +115,7 @@ def asked(search: "Search", hunt: Hunt, query: Query, kinds: Sequence[str]) -> b
         if not listing.whole or len(listing.sets) > thousands.MOST_SETS:
             return False
         others = [group.place for group in hunt.plan.groups]
-        alone = cures.told("only the landmarks that it is read off", Family.ALONE, others)
+        alone = relaxations.told("only the landmarks that it is read off", RelaxationKind.ALONE, others)
         trial = search.say_trial(hunt, Trial(query.shape, (alone,), hunt.asking.request(query.shape)), listing)
         return search.take(hunt, trial, listing.sets, lambda it: (read_word(it.text), hunt.word(it.text)))
     finally:

@@ -14,7 +14,7 @@ from ..calls.surveys import Request, Surveys
 from ..errors import Refused
 from ..halving import halved
 from ..units import listed
-from .cures import Cure, Family, loosened
+from .relaxations import Relaxation, RelaxationKind, relaxed
 from .plans import LEAST_BAD, Asking
 from .shapes import Shape
 
@@ -41,7 +41,7 @@ class First:
 
 class Questions:
     """Questions about the shapes of some images. `late` is told of each that ran out of its time, and how many seconds that was; `tied` says that
-    parity ties the images, so that it surely allows a set where nothing is loosened, and this is not asked."""
+    parity ties the images, so that it surely allows a set where nothing is relaxed, and this is not asked."""
 
     def __init__(self, program: Program, surveys: Surveys, asking: Asking, late: Late, tied: bool = False) -> None:
         self.program, self.surveys, self.asking, self.late, self.tied = program, surveys, asking, late, tied
@@ -147,19 +147,19 @@ class Questions:
         told = set(self.asking.evidence.offset_values) & set(request.numbers("offsets"))
         return first is None or any(self.far_before(offset, first, shape) for offset in told)
 
-    def needing(self, shape: Shape, chosen: Sequence[Cure], asked: Request) -> list[int]:
-        """The offsets of a request that need these things loosened: parity allows no set there, nor at a smaller offset, with less. What it allows
+    def needing(self, shape: Shape, chosen: Sequence[Relaxation], asked: Request) -> list[int]:
+        """The offsets of a request that need these things relaxed: parity allows no set there, nor at a smaller offset, with less. What it allows
         behind damage says nothing of the offsets before, but that the images share an offset. None where that leaves no offset of the hints. Half the
         window counts for nothing here: what stands at the end of the disks is passed over by large chunks as well, which parity alone then allows."""
         offsets = asked.numbers("offsets")
-        free = [cure for cure in chosen if cure.family is not Family.WINDOW]
+        free = [relaxation for relaxation in chosen if relaxation.relaxes is not RelaxationKind.WINDOW]
         request = self.asking.request(shape)
         less = [part for count in range(len(chosen)) for part in itertools.combinations(chosen, count) if list(part) != free]
         if self.asking.shapes.speak_for(shape):
-            less = [part for part in less if not any(cure.family is Family.BAD_ROWS for cure in part)]
+            less = [part for part in less if not any(relaxation.relaxes is RelaxationKind.BAD_ROWS for relaxation in part)]
         try:
             for part in less:
-                first = self.first_allowed(loosened(request, part), shape)
+                first = self.first_allowed(relaxed(request, part), shape)
                 offsets = [offset for offset in offsets if first is None or self.far_before(offset, first, shape)]
                 told = set(self.asking.evidence.offset_values) & set(offsets)
                 if first is not None and (not told or asked.is_each):

@@ -30,9 +30,9 @@ from ..report import words
 from ..report.diagnosis import Diagnosis
 from ..report.report import Report
 from ..units import ALL, KIB, MIB, MOST_IMAGES, SECTOR, counted, size_said
-from . import cures
+from . import relaxations
 from .answers import Answer, Answers, Kind
-from .cures import Cure, Family
+from .relaxations import Relaxation, RelaxationKind
 from .evident import Evident
 from .hunt import Hunt
 from .mirrors import Grouped, Mirrors, groupings, is_striped
@@ -43,9 +43,9 @@ from .trials import Trial
 
 # Images of at most so many times what is read first are read wholly where nothing was found.
 SMALL_TIMES = 4
-# Pairs of mirrors are searched with up to so many things loosened.
+# Pairs of mirrors are searched with up to so many things relaxed.
 MOST_PAIRED = 2
-# In so many shapes three things are loosened, whatever they are.
+# In so many shapes three things are relaxed, whatever they are.
 MOST_THRICE = 2
 
 
@@ -194,7 +194,7 @@ class Search:
         return self.asked_ties
 
     def is_hopeless(self, told: Told) -> bool:
-        """More disks are missing than any level bears, or the images are encrypted and parity tells nothing: nothing is loosened then."""
+        """More disks are missing than any level bears, or the images are encrypted and parity tells nothing: nothing is relaxed then."""
         return self.late_answer(told) is not None
 
     def is_closed(self, told: Told) -> bool:
@@ -277,7 +277,7 @@ class Search:
 
     def first_trials(self) -> bool:
         """What is plain, once more where it ran out of its time, and with parity that stays for several rows; then what the hints say, with up to
-        three things loosened where parity tells something, what parity tells of with up to two that are soon told, and the rest with up to one. It
+        three things relaxed where parity tells something, what parity tells of with up to two that are soon told, and the rest with up to one. It
         says whether the search is at its end."""
         tiers = self.hunt.shapes.tiers()
         hinted, told = tiers.hinted, tiers.told
@@ -302,7 +302,7 @@ class Search:
         return len(self.images) % 2 == 1
 
     def plain_trials(self, tiers: Tiers) -> bool:
-        """Nothing loosened: what the hints say, what parity tells of, the rest where none of these is content, and RAID 10, which comes first where
+        """Nothing relaxed: what the hints say, what parity tells of, the rest where none of these is content, and RAID 10, which comes first where
         images are the same. Each trial takes no longer than a question. It says whether the search is at its end."""
         exact = tuple(shape for shape in self.hunt.shapes.exact() if shape in tiers.told)
         alike = any(image.like is not None for image in self.images)
@@ -312,7 +312,7 @@ class Search:
             return self.best() < Score.CHECKED and (self.take_step(Step(tiers.rest, 0)) or not alike and self.plain_mirrors())
 
     def delayed_trials(self, tiers: Tiers) -> bool:
-        """Parity that stays for several rows, nothing else loosened, in the same order, until a candidate is content; each trial takes no longer than
+        """Parity that stays for several rows, nothing else relaxed, in the same order, until a candidate is content; each trial takes no longer than
         a question. It says whether the search is at its end."""
         with self.in_short():
             return any(self.best() < Score.CHECKED and self.take_step(delayed(shape)) for shape in tiers.all)
@@ -327,7 +327,7 @@ class Search:
             self.hunt.program.seconds = seconds
 
     def plain_again(self, tiers: Tiers) -> bool:
-        """What hints say and what parity tells of, nothing loosened, where its time was up, in the whole time of a trial; it says whether the search
+        """What hints say and what parity tells of, nothing relaxed, where its time was up, in the whole time of a trial; it says whether the search
         is at its end."""
         self.hunt.ask_again()
         return any(map(self.take_step, [Step(tiers.hinted, 0), Step(tiers.told, 0, quick=True)]))
@@ -343,17 +343,17 @@ class Search:
         if not self.hunt.evidence.unread or not self.hunt.plan.groups:
             return False
         telling = [shape for shape in shapes if shape.parity]
-        first = cures.told(f"only the first {FIRST_ROWS} rows", Family.FIRST_ROWS)
-        ways: list[tuple[Cure, ...]] = [(), *((cure,) for cure in cures.group_cures(self.hunt.plan, True))]
+        first = relaxations.told(f"only the first {FIRST_ROWS} rows", RelaxationKind.FIRST_ROWS)
+        ways: list[tuple[Relaxation, ...]] = [(), *((relaxation,) for relaxation in relaxations.group_relaxations(self.hunt.plan, True))]
         for chosen in ways:
             for shape in telling:
-                few, all_rows = (cures.loosened(request, chosen) for request in (self.hunt.asking.first_rows(shape), self.hunt.asking.request(shape)))
+                few, all_rows = (relaxations.relaxed(it, chosen) for it in (self.hunt.asking.first_rows(shape), self.hunt.asking.request(shape)))
                 if self.attempt(self.hunt, shape, (first, *chosen), few, tested_by=all_rows):
                     return True
         return False
 
     def further_trials(self) -> bool:
-        """With two and three things loosened: what parity tells of first, and then all else with two."""
+        """With two and three things relaxed: what parity tells of first, and then all else with two."""
         tiers = self.hunt.shapes.tiers()
         steps = [Step(tiers.told, 2), Step(tiers.told, 3), Step(tiers.rest, 2), Step(tiers.all, 2, every=True),
                  Step(tiers.all[:MOST_THRICE], 3, every=True)]
@@ -377,9 +377,9 @@ class Search:
 
     def attempt_bare(self, hunt: Hunt, shape: Shape) -> bool:
         """The trial with all groups left out."""
-        return self.attempt(hunt, shape, (cures.bare(hunt.plan),), hunt.asking.bare(shape), last=True)
+        return self.attempt(hunt, shape, (relaxations.bare(hunt.plan),), hunt.asking.bare(shape), last=True)
 
-    def attempt(self, hunt: Hunt, shape: Shape, chosen: tuple[Cure, ...], request: Request, last: bool = False,
+    def attempt(self, hunt: Hunt, shape: Shape, chosen: tuple[Relaxation, ...], request: Request, last: bool = False,
                 tested_by: Request | None = None) -> bool:
         """One trial; it says whether a candidate is clean and whole. `tested_by` is the request by which its sets are tested, where that is
         another."""
@@ -393,7 +393,7 @@ class Search:
                 return False
             if not last and not hunt.may_list(plan, shape):
                 if self.options.show:
-                    self.report.say("passed over", f"skipped: {trial.line()}", loosened=trial.loosened, shape=shape.line())
+                    self.report.say("passed over", f"skipped: {trial.line()}", loosened=trial.relaxed, shape=shape.line())
                 return False
             listing = hunt.listing(shape, request, plan)
         except Refused as error:
@@ -401,7 +401,7 @@ class Search:
             return False
         if listing.bad_rows is not None:
             named = f"badrows {listing.bad_rows}"
-            chosen = tuple(dataclasses.replace(cure, name=named) if cure.family is Family.BAD_ROWS else cure for cure in chosen)
+            chosen = tuple(dataclasses.replace(it, name=named) if it.relaxes is RelaxationKind.BAD_ROWS else it for it in chosen)
             request = request.having(badrows=listing.bad_rows)
         told = self.say_trial(hunt, Trial(shape, chosen, request), listing)
         told = dataclasses.replace(told, request=tested_by or request)
@@ -424,9 +424,10 @@ class Search:
     def say_trial(self, hunt: Hunt, trial: Trial, listing: Listing) -> Trial:
         """A trial with its number, after it is printed with what it listed."""
         self.number, self.was_late = self.number + 1, self.was_late or not listing.whole
-        trial = dataclasses.replace(trial, number=self.number, cures=(*trial.cures, *hunt.asking.unread_cure(trial.shape, trial.request)))
+        unread = hunt.asking.unread_relaxation(trial.shape, trial.request)
+        trial = dataclasses.replace(trial, number=self.number, relaxations=(*trial.relaxations, *unread))
         self.report.say("trial", f"step {self.number}: {trial.line()}: {listing.line()}", number=self.number, shape=trial.shape.line(),
-                        loosened=trial.loosened, listed=len(listing.sets), total=listing.total, note=listing.note, reason=self.why)
+                        loosened=trial.relaxed, listed=len(listing.sets), total=listing.total, note=listing.note, reason=self.why)
         self.shapes_tried.add(trial.shape.line())
         return trial
 
@@ -495,7 +496,7 @@ class Search:
         return any([whole, *(self.grouped(hunt, grouped) for grouped in groupings(striped))])
 
     def grouped(self, over: Hunt, grouped: Grouped, counts: Sequence[int] = range(MOST_PAIRED + 1)) -> bool:
-        """The RAID 0 of one image of each group of a hunt, as a hunt of its own, with so many things loosened; it says whether the search is at its
+        """The RAID 0 of one image of each group of a hunt, as a hunt of its own, with so many things relaxed; it says whether the search is at its
         end."""
         seen_by, start = over.evidence.images, over.evidence.start
         images = [seen_by[group[0]] for group in grouped.groups]

@@ -12,8 +12,8 @@ from ..calls.sets import LEVELS, read_word
 from ..errors import Refused
 from ..evidence import far, sampling
 from ..units import SECTOR, counted
-from . import cures
-from .cures import Family
+from . import relaxations
+from .relaxations import RelaxationKind
 from .hunt import Hunt
 from .shapes import Shape
 from .trials import Trial
@@ -83,7 +83,7 @@ def groups_of(hunt: Hunt, shape: Shape, kinds: Sequence[str], end: int | None = 
 
 
 def asked_of(hunt: Hunt, shape: Shape, kinds: Sequence[str], end: int | None = None) -> Plan:
-    """The plan of a shape with nothing loosened, in which landmarks of these kinds are groups as well, up to an end of the images, if that is not the
+    """The plan of a shape with nothing relaxed, in which landmarks of these kinds are groups as well, up to an end of the images, if that is not the
     usual one."""
     request = hunt.asking.request(shape).having(kinds=",".join([surveys.KINDS, *kinds]))
     return hunt.surveys.plan(request if end is None else request.having(end=end))
@@ -132,7 +132,7 @@ def attempt(search: "Search", hunt: Hunt, most: Most) -> bool:
 def taken(search: "Search", hunt: Hunt, most: Most, listing: Listing) -> bool:
     """Tests these sets as others are, by the landmarks that are not asked for here too; it says whether the search is at its end."""
     others = [group.place for group in hunt.plan.groups]
-    alone = cures.told(f"only the {most.marks.name}s of {most.marks.system}, as many as match", Family.ALONE, others)
+    alone = relaxations.told(f"only the {most.marks.name}s of {most.marks.system}, as many as match", RelaxationKind.ALONE, others)
     trial = search.say_trial(hunt, Trial(most.shape, (alone,), hunt.asking.request(most.shape)), listing)
     return search.take(hunt, trial, listing.sets, lambda it: (read_word(it.text), hunt.word(it.text)))
 

@@ -1,32 +1,32 @@
-"""Trials: a shape, with what is loosened for it, and what is asked for then."""
+"""Trials: a shape, with what is relaxed for it, and what is asked for then."""
 
 import dataclasses
 
 from ..calls.program import Copied
 from ..calls.surveys import Request
-from .cures import Cure, Family
+from .relaxations import Relaxation, RelaxationKind
 from .shapes import Shape
 
 
-def names_of(cures: tuple[Cure, ...]) -> str:
-    """What is said of cures."""
-    return " and ".join(cure.name for cure in cures)
+def names_of(relaxations: tuple[Relaxation, ...]) -> str:
+    """What is said of relaxations."""
+    return " and ".join(relaxation.name for relaxation in relaxations)
 
 
 @dataclasses.dataclass(frozen=True)
 class Trial:
-    """A listing: what is searched, what is loosened, and what is asked for; of RAID 10 by its copies no request, but what is asked of these."""
+    """A listing: what is searched, what is relaxed, and what is asked for; of RAID 10 by its copies no request, but what is asked of these."""
 
     shape: Shape
-    cures: tuple[Cure, ...] = ()
+    relaxations: tuple[Relaxation, ...] = ()
     request: Request | None = None
     number: int = 0
     copied: Copied | None = None
 
     @property
-    def loosened(self) -> list[str]:
-        """The names of what is loosened."""
-        return [cure.name for cure in self.cures]
+    def relaxed(self) -> list[str]:
+        """The names of what is relaxed."""
+        return [relaxation.name for relaxation in self.relaxations]
 
     @property
     def has_bad_rows(self) -> bool:
@@ -41,14 +41,14 @@ class Trial:
     @property
     def is_bare(self) -> bool:
         """All groups of landmarks are left out."""
-        return any(cure.family is Family.BARE for cure in self.cures)
+        return any(relaxation.relaxes is RelaxationKind.BARE for relaxation in self.relaxations)
 
     @property
     def out(self) -> frozenset[int]:
         """The groups that are left out."""
-        return frozenset().union(*(cure.out for cure in self.cures))
+        return frozenset().union(*(relaxation.out for relaxation in self.relaxations))
 
     def line(self) -> str:
         """What is said of it."""
         copies = f", {self.copied.line()}" if self.copied else ""
-        return f"{self.shape.line()}{copies}; relaxed: {names_of(self.cures) or 'nothing'}"
+        return f"{self.shape.line()}{copies}; relaxed: {names_of(self.relaxations) or 'nothing'}"

@@ -9,7 +9,7 @@ from ..calls.plans import Group, Plan
 from ..calls.surveys import Request
 from ..checks.rows import Near, Rows
 from ..halving import halved
-from ..policy.cures import OF_MARKS
+from ..policy.relaxations import OF_MARKS
 from ..policy.hunt import Hunt
 from ..policy.shapes import Shape
 from .report import Report
@@ -77,7 +77,7 @@ class Diagnosis:
         found: dict[str, Near] = {}
         most = self.hunt.evidence.end
         for shape, request in shapes:
-            changed = [cure.of(request) for cure in self.hunt.asking.cures(shape) if cure.family in OF_MARKS]
+            changed = [relaxation.of(request) for relaxation in self.hunt.asking.relaxations(shape) if relaxation.relaxes in OF_MARKS]
             for it in [request, *changed]:
                 plan = self.hunt.surveys.plan(it).having(levels=shape.telling)
                 rows = self.fewest(plan, most) if plan.groups else None

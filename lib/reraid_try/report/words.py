@@ -113,7 +113,7 @@ def encrypted(order: Sequence[Candidate]) -> list[tuple[int, Candidate]]:
 
 def lines_of(number: int, it: Candidate, images: Sequence[Image], said: Sequence[str], typed: Typed) -> list[str]:
     """Return what is printed of a candidate."""
-    relaxed = "relaxed: " + (" and ".join(it.trial.loosened) or "nothing")
+    relaxed = "relaxed: " + (" and ".join(it.trial.relaxed) or "nothing")
     lines = [f"candidate {number}: {said[0]}"]
     lines += [f"  {text}" for text in (*said[1:], relaxed, it.rows, it.alike_said, *it.old, *twins(it.word, images), kin.text(it)) if text]
     lines += [f"  {LOOK}", *("    " + line for line in typed.lines), f"  {END}", *("    " + line for line in typed.ends)]
@@ -135,7 +135,7 @@ def apart_lines(it: Candidate, order: Sequence[Candidate]) -> list[str]:
 
 
 def say_class(report: Report, number: int, it: Candidate, images: Sequence[Image], order: Sequence[Candidate] = ()) -> None:
-    """What a class is, what was loosened for it, and what to type; `order` are all classes."""
+    """What a class is, what was relaxed for it, and what to type; `order` are all classes."""
     names = [image.called for image in images]
     said, typed = in_words(it.word, names, it.whole.word if it.whole else None), commands(number, it, images)
     report.say("words", "\n".join(lines_of(number, it, images, said, typed) + apart_lines(it, order)),
@@ -144,7 +144,7 @@ def say_class(report: Report, number: int, it: Candidate, images: Sequence[Image
 
 
 def show(report: Report, order: Sequence[Candidate], images: Sequence[Image]) -> None:
-    """For each class with a rating what it is, what was loosened for it, and what to type; it chooses none. What is encrypted is told apart by no
+    """For each class with a rating what it is, what was relaxed for it, and what to type; it chooses none. What is encrypted is told apart by no
     checker."""
     told, closed = best(order), encrypted(order)
     for number, it in told:

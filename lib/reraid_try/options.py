@@ -17,7 +17,7 @@ UNITS = {"K": units.KIB, "M": units.MIB, "G": units.GIB, "T": units.TIB}
 LEVELS = ("0", "5", "6", "10")
 LEAST_MEMBERS = 2
 LEAST_FIRST, USUAL_FIRST, USUAL_SECONDS = units.MIB, 16 * units.GIB, 60
-# A question takes this part of the time of a trial at most, and so many seconds at least.
+# A question takes this part of the time of a step at most, and so many seconds at least.
 PART, LEAST_SECONDS = 6, 5
 
 ABOUT = """\
@@ -30,7 +30,7 @@ STATUSES = "status: 0 a candidate is rated + or ++, 1 none is, 2 wrong arguments
 
 @dataclasses.dataclass(frozen=True)
 class Options:
-    """What is asked for. `first` is how many bytes of each image are read, `seconds` how long a trial may take, `question` how long a question,
+    """What is asked for. `first` is how many bytes of each image are read, `seconds` how long a step may take, `question` how long a question,
     where that is not the usual part of it, `members` the numbers of members that are tried, None where hints say them, `report` the file of the
     page, `hashes` whether digests are taken, `raw` whether images in containers are searched as they are, `resume` the file that keeps what was
     answered, `opened` the containers that were opened, `every` after how many seconds a line says what is at work. `clean` asks to

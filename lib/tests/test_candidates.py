@@ -32,7 +32,7 @@ from reraid_try.options import Options
 from reraid_try.policy import relaxations
 from reraid_try.policy.hunt import Hunt
 from reraid_try.policy.shapes import Shape
-from reraid_try.policy.trials import Trial
+from reraid_try.policy.steps import Step
 from reraid_try.report import report, table, words
 from reraid_try.report.report import Report
 from reraid_try.units import SECTOR
@@ -63,7 +63,7 @@ class Over:
         """The survey of a request."""
         return self.plan
 
-    def checked_by(self, _: Trial) -> object:
+    def checked_by(self, _: Step) -> object:
         """The plan with which `check` is asked."""
         return self.plan
 
@@ -103,11 +103,11 @@ def whole(clean: bool | None = True, longest: int = 1 << 20, kind: str = "xfs") 
 
 def candidate(text: str = SET, verdict: Verdict | None = None, chosen: Sequence[relaxations.Relaxation] = (), number: int = 1, rank: int = 0,
               **values: object) -> Candidate:
-    """A candidate of a trial."""
+    """A candidate of a step."""
     word = read_word(text)
-    trial = Trial(Shape(word.level, len(word.slots), word.lost), tuple(chosen), BASE, number)
+    step = Step(Shape(word.level, len(word.slots), word.lost), tuple(chosen), BASE, number)
     hunt = cast(Hunt, values.pop("hunt", None) or hunt_of())
-    return Candidate(word, rank, trial, hunt, listed=None if word.is_mirrored else word, verdict=verdict, **values)  # type: ignore[arg-type]
+    return Candidate(word, rank, step, hunt, listed=None if word.is_mirrored else word, verdict=verdict, **values)  # type: ignore[arg-type]
 
 
 def place(it: Candidate) -> tuple[int, int, tuple[int, str, int], tuple[int, int, int]]:
@@ -125,17 +125,17 @@ class OfCandidates(unittest.TestCase):
 
     def test_most_marks_left_out(self) -> None:
         plan = plan_of(XFS, EXT)
-        out = Trial(Shape("5", 3), (relaxations.group_relaxations(plan, True)[1],))
+        out = Step(Shape("5", 3), (relaxations.group_relaxations(plan, True)[1],))
         self.assertEqual(out.out, frozenset({0}))
         self.assertTrue(left_most(out, plan, (Held("xfs"), Held("ext", 0, 1, 0))))
         self.assertTrue(left_most(out, plan, (Held("xfs", 0, 1, 2), Held("ext"))))
         self.assertFalse(left_most(out, plan, (Held("xfs", 0, 2, 0), Held("ext"))))
-        self.assertFalse(left_most(Trial(Shape("5", 3)), plan, (Held("xfs"), Held("ext"))))
-        self.assertFalse(left_most(Trial(Shape("5", 3), (relaxations.group_relaxations(plan, False)[0],)), plan, (Held("xfs"), Held("ext"))))
+        self.assertFalse(left_most(Step(Shape("5", 3)), plan, (Held("xfs"), Held("ext"))))
+        self.assertFalse(left_most(Step(Shape("5", 3), (relaxations.group_relaxations(plan, False)[0],)), plan, (Held("xfs"), Held("ext"))))
 
     def test_less_than_half_of_the_marks_left_out(self) -> None:
         plan = plan_of(XFS, NTFS)
-        out = Trial(Shape("5", 3), (relaxations.group_relaxations(plan, True)[0],))
+        out = Step(Shape("5", 3), (relaxations.group_relaxations(plan, True)[0],))
         self.assertEqual((out.out, left_most(out, plan, (Held("xfs"), Held("ntfs")))), (frozenset({0}), False))
 
     def test_one_sign_less_then(self) -> None:
@@ -180,7 +180,7 @@ class OfCandidates(unittest.TestCase):
         ends = []
         for text in ("far2:8:0:0,1", "near2:8:0:0,1"):
             it = candidate(text)
-            it.trial = dataclasses.replace(it.trial, copied=Copied((NEAR_2,), 2, end=77))
+            it.step = dataclasses.replace(it.step, copied=Copied((NEAR_2,), 2, end=77))
             ends.append(it.end)
         self.assertEqual((ends, candidate("far2:8:0:0,1").end), ([77, None], None))
 
@@ -361,7 +361,7 @@ class Damaged(unittest.TestCase):
     def test_lesser(self) -> None:
         it = damage.lesser(candidate("6:ls-6:after-q:128:2048:0,1,2,3", unsound=9), frozenset({3}))
         self.assertEqual((it.word.text, it.listed and it.listed.text), (SET, "6:ls-6:after-q:128:2048:0,1,2,-"))
-        self.assertEqual((it.trial.relaxed, it.trial.shape.missing, it.unsound, it.whole and it.whole.unsound), (["without image 3"], 1, None, 9))
+        self.assertEqual((it.step.relaxed, it.step.shape.missing, it.unsound, it.whole and it.whole.unsound), (["without image 3"], 1, None, 9))
 
     def test_no_sign_beside_one_without_unsound_rows(self) -> None:
         """A set has no sign where it has none of its unsound rows without an image, as long as parity still tells, and no less speaks for that."""
@@ -540,7 +540,7 @@ class Tested(InFolder):
         """What far copies begin with is read by the end with which they were asked for; of the command's output so much is taken."""
         tests = self.over(("reraid mirrorwrite", Answer(0, b"XFSB")))
         it = candidate("far2:8:0:0,1", hunt=hunt_of())
-        it.trial = dataclasses.replace(it.trial, copied=Copied((NEAR_2,), 2, end=77))
+        it.step = dataclasses.replace(it.step, copied=Copied((NEAR_2,), 2, end=77))
         self.assertTrue(tests.begins(it))
         self.assertIn("end=77", cast(Standin, tests.commands).asked[0][0])
 
@@ -572,7 +572,7 @@ class Tested(InFolder):
         tests = self.over()
         self.assertEqual(tests.without_doubtful(some), some)
         for it in some:
-            it.trial = dataclasses.replace(it.trial, request=BASE.having(misfits=8))
+            it.step = dataclasses.replace(it.step, request=BASE.having(misfits=8))
         self.assertEqual((tests.without_doubtful(some), tests.put_off), (some[:1], some[1:]))
         self.assertIn("1 of 2 layouts deferred", self.report.text)
         # Where all are put off nothing is tested.

@@ -167,7 +167,7 @@ class Nearest(unittest.TestCase):
 
     def test_how_many_are_looked_at_and_shown(self) -> None:
         """24 sets are asked of a plan, the eight largest groups are looked at, and three sets are shown of either kind, each kind in four times the
-        time of a trial."""
+        time of a step."""
         found, standin, report = self.of_hunt(with_five, Shape("5", 3))
         found.by_rows(found.shapes())
         found.of_group(found.hunt.plan, found.hunt.plan.groups[0])

@@ -30,8 +30,8 @@ from reraid_try.policy import evident as evident_module
 from reraid_try.policy.evident import Evident, Later, Part
 from reraid_try.policy.plain import Aim, Span, Unsound
 from reraid_try.policy.shapes import Shape
-from reraid_try.policy.steps import Step, is_of_bad_rows, with_bad_rows
-from reraid_try.policy.trials import Trial
+from reraid_try.policy.stages import Stage, is_of_bad_rows, with_bad_rows
+from reraid_try.policy.steps import Step
 
 from . import rows
 from .standin import Told, plan_of
@@ -68,7 +68,7 @@ class Without(Evident):
         return list(self.order)
 
     def seek(self, aim: Aim, later: list[Later]) -> bool:
-        """The trial of an aim says enough where that is stated."""
+        """The step of an aim says enough where that is stated."""
         self.tried.append(aim)
         later += [Later(aim, cast(Any, None))] * bool(aim.moved)
         return self.order.index(aim) in self.good
@@ -127,7 +127,7 @@ class Attempts(unittest.TestCase):
         tested: list[Any] = []
         self.times: list[int] = []
 
-        def step(it: Step, _hunt: Any) -> bool:
+        def stage(it: Stage, _hunt: Any) -> bool:
             """A listing with so much relaxed."""
             asked.append(f"list {it.count}" if it.only is None else it.only.__name__)
             hunt.cut_short |= {"a plan"} if late else set()
@@ -139,7 +139,7 @@ class Attempts(unittest.TestCase):
             """A listing without landmarks."""
             asked.append("bare")
             return False
-        search = types.SimpleNamespace(options=Options(("a",)), take_step=step, attempt_bare=bare, tested=tested, is_hopeless=lambda _: False)
+        search = types.SimpleNamespace(options=Options(("a",)), take_stage=stage, attempt_bare=bare, tested=tested, is_hopeless=lambda _: False)
         it = Zeros(cast(Any, search))
         it.order, it.ends = asked, ends
         hunt = types.SimpleNamespace(plan=types.SimpleNamespace(groups=["a group"] if groups else []), program=types.SimpleNamespace(seconds=0),
@@ -151,12 +151,12 @@ class Attempts(unittest.TestCase):
         return asked
 
     def test_marks_and_parity(self) -> None:
-        """With marks a plain listing comes before what zeros allow. It has the whole time of a trial where Q tells something; else a sixth, and the
+        """With marks a plain listing comes before what zeros allow. It has the whole time of a step where Q tells something; else a sixth, and the
         whole only where that was up and zeros did not help."""
         self.assertEqual((self.order(Shape("6", 6, 1), True), self.times), (["list 0", "zeros", "list 1", "list 2"], [60, 10, 10]))
         self.assertEqual((self.order(Shape("5", 6), True), self.times), (["list 0", "zeros", "list 1", "list 2"], [10, 10, 10]))
         content: Any = types.SimpleNamespace(score=Score.CHECKED, found=types.SimpleNamespace(encrypted=[]),
-                                             trial=types.SimpleNamespace(shape=types.SimpleNamespace(parity=True)))
+                                             step=types.SimpleNamespace(shape=types.SimpleNamespace(parity=True)))
         for late in (False, True):
             self.assertEqual(self.order(Shape("5", 6), True, content, late=late), ["list 0", "list 1"])
         self.assertEqual(self.order(Shape("5", 6), True, late=True, tied=False), ["list 0", "zeros", "list 1", "list 2"])
@@ -170,11 +170,11 @@ class Attempts(unittest.TestCase):
         self.assertEqual(self.order(Shape("5", 6), False, ends="zeros"), ["zeros"])
         self.assertEqual(self.order(Shape("5", 6), True, ends="list 1"), ["list 0", "zeros", "list 1"])
         content: Any = types.SimpleNamespace(score=Score.CHECKED, found=types.SimpleNamespace(encrypted=[]),
-                                             trial=types.SimpleNamespace(shape=types.SimpleNamespace(parity=True)))
+                                             step=types.SimpleNamespace(shape=types.SimpleNamespace(parity=True)))
         self.assertEqual(self.order(Shape("5", 6), True, content, first=1), ["list 0", "zeros", "list 1"])
 
     def test_time_of_what_is_not_tied(self) -> None:
-        """It is no more than a sixth of that of a trial, also where Q tells something."""
+        """It is no more than a sixth of that of a step, also where Q tells something."""
         self.order(Shape("6", 6, 1), True, tied=False)
         self.assertEqual(self.times, [10, 10, 10])
 
@@ -182,7 +182,7 @@ class Attempts(unittest.TestCase):
         """A volume that is encrypted ends it where parity speaks for it, since nothing more is to be seen."""
         def candidate(parity: bool, encrypted: list[str]) -> Any:
             found = types.SimpleNamespace(encrypted=encrypted)
-            return types.SimpleNamespace(found=found, trial=types.SimpleNamespace(shape=types.SimpleNamespace(parity=parity)), score=Score.KNOWN)
+            return types.SimpleNamespace(found=found, step=types.SimpleNamespace(shape=types.SimpleNamespace(parity=parity)), score=Score.KNOWN)
         self.assertEqual(self.order(Shape("6", 6), False, candidate(True, ["LUKS"])), ["list 0"])
         self.assertEqual(self.order(Shape("5", 6), False, candidate(True, ["LUKS"])), ["zeros", "list 0"])
         for other in (candidate(False, ["LUKS"]), candidate(True, [])):
@@ -191,14 +191,14 @@ class Attempts(unittest.TestCase):
     def test_before_another_disk_is_lost(self) -> None:
         """Where parity tells nothing what NTFS needs, and parity that stays, come before the next shape, unless a set is enough or content."""
         content: Any = types.SimpleNamespace(score=Score.CHECKED, found=types.SimpleNamespace(encrypted=[]),
-                                             trial=types.SimpleNamespace(shape=types.SimpleNamespace(parity=False)))
+                                             step=types.SimpleNamespace(shape=types.SimpleNamespace(parity=False)))
         shapes, then = (Shape("5", 4, 1), Shape("6", 5, 2)), ["is_of_kind", "stays"]
         self.assertEqual(self.order(shapes, True, tied=False)[:5], ["list 0", *then, "list 0", "zeros"])
         for place, what in enumerate(then):
             self.assertEqual(self.order(shapes, True, tied=False, ends=what), ["list 0", *then[:place + 1]])
         self.assertEqual(self.order(shapes, True, content, tied=False), ["list 0", "list 0", "list 1"])
         for shape, wanted in zip(shapes, (["list 0", "stays", "list 0", "list 1"], ["list 0", "list 0", "stays", "list 1"])):
-            content.trial.shape = shape
+            content.step.shape = shape
             self.assertEqual(self.order(shapes, True, content, tied=False), wanted)
         self.assertEqual(self.order((Shape("5", 3), *shapes), True)[:4], ["list 0", "list 0", *then])
 
@@ -206,7 +206,7 @@ class Attempts(unittest.TestCase):
         """The shapes of which a candidate has a sign already, and no others; all where none has."""
         asked: list[tuple[Shape, ...]] = []
 
-        def step(it: Step, _hunt: Any) -> bool:
+        def stage(it: Stage, _hunt: Any) -> bool:
             asked.append(it.shapes)
             return False
         shapes = Shape("0", 3), Shape("5", 4, 1), Shape("6", 5, 2)
@@ -215,8 +215,8 @@ class Attempts(unittest.TestCase):
         for signed, wanted in cases:
             asked.clear()
             found = types.SimpleNamespace(encrypted=[])
-            tested = [types.SimpleNamespace(score=Score.CHECKED, found=found, trial=types.SimpleNamespace(shape=shape)) for shape in signed]
-            search = types.SimpleNamespace(options=Options(("a",)), take_step=step, tested=tested, is_hopeless=lambda _: False)
+            tested = [types.SimpleNamespace(score=Score.CHECKED, found=found, step=types.SimpleNamespace(shape=shape)) for shape in signed]
+            search = types.SimpleNamespace(options=Options(("a",)), take_stage=stage, tested=tested, is_hopeless=lambda _: False)
             it = Evident(cast(Any, search))
             it.relaxed(cast(Any, types.SimpleNamespace(program=types.SimpleNamespace())), Aim((0, 1, 2), Span(0, 9), "why", shapes), 0)
             self.assertEqual(asked, wanted)
@@ -234,13 +234,13 @@ class ByPlaces(unittest.TestCase):
 
     def test_records_of_number_0(self) -> None:
         """A set that zeros allow is checked without the file records that a fresh NTFS numbers 0, so that its other marks may speak for it."""
-        taken: list[Trial] = []
+        taken: list[Step] = []
 
-        def take(_hunt: Any, trial: Trial, sets: Any, _words: Any) -> bool:
+        def take(_hunt: Any, step: Step, sets: Any, _words: Any) -> bool:
             """The sets are tested."""
             self.assertEqual([it.text for it in sets], ["5:ls:none:16:64:0,1,2"])
             self.assertEqual(said, ["1 layout passes (those that the fewest rows of zeros contradict; no others were tested)"])
-            taken.append(trial)
+            taken.append(step)
             return True
         placement = types.SimpleNamespace(words=lambda *_: ["5:ls:none:16:64:0,1,2"])
         hunt = types.SimpleNamespace(places_at=lambda _: types.SimpleNamespace(best=lambda *_: [placement]), plan=plan_of(NTFS),
@@ -248,12 +248,12 @@ class ByPlaces(unittest.TestCase):
                                      asking=types.SimpleNamespace(request=lambda _: BASE))
         said: list[str] = []
 
-        def say_trial(_hunt: Any, trial: Trial, listing: Listing) -> Trial:
-            """The trial is said: it does not read as if all sets had been listed."""
+        def say_step(_hunt: Any, step: Step, listing: Listing) -> Step:
+            """The step is said: it does not read as if all sets had been listed."""
             said.append(listing.line())
             self.assertTrue(listing.whole)
-            return trial
-        search = types.SimpleNamespace(options=Options(("a",)), say_trial=say_trial, take=take, tested=[])
+            return step
+        search = types.SimpleNamespace(options=Options(("a",)), say_step=say_step, take=take, tested=[])
         aim = Aim((0, 1, 2), Span(0, 900), "why", (Shape("5", 3),), tied=True)
         self.assertTrue(Evident(cast(Any, search)).by_places(cast(Any, hunt), aim))
         self.assertEqual([(it.request and it.request.records, it.out) for it in taken], [(True, {0})])
@@ -264,8 +264,8 @@ class ByPlaces(unittest.TestCase):
         tested: list[Any] = []
         found: list[Any] = []
 
-        def take(_hunt: Any, trial: Trial, sets: Any, _words: Any) -> bool:
-            asked.append(([it.text for it in sets], trial.relaxed[1:], trial.request.get("delays") if trial.request else ""))
+        def take(_hunt: Any, step: Step, sets: Any, _words: Any) -> bool:
+            asked.append(([it.text for it in sets], step.relaxed[1:], step.request.get("delays") if step.request else ""))
             tested.extend(found)
             return whole
         turn = mock.Mock(patterns=(("la", "none"),))
@@ -274,7 +274,7 @@ class ByPlaces(unittest.TestCase):
             return [Placement(turn, chunk, 64, (0, 1, 2), 0, 99) for chunk in chunks if chunk in (128, 2048 * 16)]
         hunt = types.SimpleNamespace(places_at=lambda _: types.SimpleNamespace(best=best), plan=plan_of(NTFS),
                                      evidence=types.SimpleNamespace(tried=(0, 64), end=900), asking=types.SimpleNamespace(request=lambda _: BASE))
-        search = types.SimpleNamespace(options=Options(("a",)), say_trial=lambda _, trial, __: trial, take=take, tested=tested)
+        search = types.SimpleNamespace(options=Options(("a",)), say_step=lambda _, step, __: step, take=take, tested=tested)
         first: tuple[list[str], list[str], str] = ["5:la:none:128:64:0,1,2"], [], ""
         staying = ["5:la*16:none:8:64:0,1,2", "5:la*16:none:2048:64:0,1,2"], ["delays 16"], "16"
         for content, whole, wanted in ((False, False, [first, staying]), (True, False, [first]), (False, True, [first])):
@@ -416,8 +416,8 @@ class Enough(unittest.TestCase):
     def test_content_or_closed(self) -> None:
         """One with a sign does, and one that is encrypted where parity speaks for it."""
         def candidate(score: Score, parity: bool, encrypted: list[str]) -> Any:
-            trial = types.SimpleNamespace(shape=types.SimpleNamespace(parity=parity))
-            return types.SimpleNamespace(score=score, trial=trial, found=types.SimpleNamespace(encrypted=encrypted))
+            step = types.SimpleNamespace(shape=types.SimpleNamespace(parity=parity))
+            return types.SimpleNamespace(score=score, step=step, found=types.SimpleNamespace(encrypted=encrypted))
         found = [candidate(Score.CHECKED, False, []), candidate(Score.KNOWN, True, ["LUKS"]), candidate(Score.KNOWN, False, ["LUKS"]),
                  candidate(Score.KNOWN, True, [])]
         self.assertEqual(list(map(evident_module.enough, found)), [True, True, False, False])
@@ -508,10 +508,10 @@ class Parts(unittest.TestCase):
 
 
 class Sought(unittest.TestCase):
-    """The trials of an aim."""
+    """The steps of an aim."""
 
     def seek(self, aim: Aim, *found: Score, ends: bool = False) -> tuple[bool, list[str], Any]:
-        """Whether a candidate says enough, what was done, and how the hunt was begun, where the trials find candidates of these scores."""
+        """Whether a candidate says enough, what was done, and how the hunt was begun, where the steps find candidates of these scores."""
         done: list[str] = []
         it, report = evident([Image(name, number, 900, first=8) for number, name in enumerate("abc")], NoTools({}), Options(("a",)))
         it.search.tested.append(cast(Any, types.SimpleNamespace(score=Score.WHOLE)))
@@ -528,8 +528,8 @@ class Sought(unittest.TestCase):
 
         def relaxed(_hunt: Any, _aim: Aim, before: int) -> None:
             done.append(f"relaxed {before} {it.search.why}")
-            trial = types.SimpleNamespace(shape=types.SimpleNamespace(parity=True))
-            it.search.tested.extend(cast(Any, types.SimpleNamespace(score=score, trial=trial, found=types.SimpleNamespace(encrypted=[])))
+            step = types.SimpleNamespace(shape=types.SimpleNamespace(parity=True))
+            it.search.tested.extend(cast(Any, types.SimpleNamespace(score=score, step=step, found=types.SimpleNamespace(encrypted=[])))
                                     for score in found)
         setattr(it, "copies", copies)
         setattr(it, "plainly", plainly)
@@ -567,20 +567,20 @@ class Sought(unittest.TestCase):
             self.assertEqual(self.seek(every, ends=True)[1], ["evidence", "plain 1 why", f"all {images} 1"])
 
     def with_all(self, images: tuple[int, ...], has: int | None) -> tuple[list[Any], list[Any], list[str], bool]:
-        """The trials of an aim over images 2 and 0 with all of a family, the hunts that were begun for them, what was said, and whether a candidate
-        with all of them has a sign, where the trial with so many things relaxed finds it, 0 of which is one that was there before."""
+        """The steps of an aim over images 2 and 0 with all of a family, the hunts that were begun for them, what was said, and whether a candidate
+        with all of them has a sign, where the step with so many things relaxed finds it, 0 of which is one that was there before."""
         it, report = evident([Image(name, number, 900, first=8) for number, name in enumerate("abc")], NoTools({}), Options(("a",), seconds=60))
         setattr(it.search, "say_late", None)
         true, less = (cast(Any, types.SimpleNamespace(score=score, word=types.SimpleNamespace(images=those)))
                       for score, those in ((Score.CHECKED, (0, 1, 2)), (Score.WHOLE, (1,))))
-        steps: list[Any] = []
+        stages: list[Any] = []
 
-        def step(asked: Step, hunt: Any) -> bool:
-            """A trial."""
-            steps.append((hunt.name, asked.count, asked.shapes, hunt.program.seconds, asked.only, it.search.why))
+        def stage(asked: Stage, hunt: Any) -> bool:
+            """A step."""
+            stages.append((hunt.name, asked.count, asked.shapes, hunt.program.seconds, asked.only, it.search.why))
             it.search.tested += [true] * (has == asked.count)
             return False
-        setattr(it.search, "take_step", step)
+        setattr(it.search, "take_stage", stage)
         it.search.why = "why"
         it.search.tested += [true, less] + [true] * (has == 0)
         unsound = Unsound(images, Shape("5", 3))
@@ -590,7 +590,7 @@ class Sought(unittest.TestCase):
             over = cast(Any, types.SimpleNamespace(name="old", program=types.SimpleNamespace(seconds=10)))
             told = it.with_all(over, aim, unsound, 1)
             self.assertEqual(it.search.why, "why")
-            return steps, [([one.number for one in call[0][2]], call[1]) for call in hunt.call_args_list], report.lines, told
+            return stages, [([one.number for one in call[0][2]], call[1]) for call in hunt.call_args_list], report.lines, told
 
     def test_with_all(self) -> None:
         """Where few rows leave images out, all of the family are tried as well, with rows that may be bad, until a candidate with all of them has a
@@ -598,22 +598,22 @@ class Sought(unittest.TestCase):
         for images, name in (((2, 0), "old"), ((0, 1, 2), "new")):
             why = Unsound(images, Shape("5", 3)).line()
             for has, count in ((None, 2), (0, 0), (1, 1), (2, 2)):
-                steps, begun, said, told = self.with_all(images, has)
+                stages, begun, said, told = self.with_all(images, has)
                 self.assertIs(told, has is not None)
-                self.assertEqual(steps, [(name, number, (Shape("5", 3),), 60, is_of_bad_rows, why) for number in (1, 2)][:count])
+                self.assertEqual(stages, [(name, number, (Shape("5", 3),), 60, is_of_bad_rows, why) for number in (1, 2)][:count])
                 self.assertEqual(begun, [([0, 1, 2], {"start": 100, "asked": {"chunks": "8"}, "tied": True, "shared": "the surveys"})] *
                                  (name == "new" and count > 0))
                 self.assertEqual(said, [why] * (count > 0))
 
     def test_bad_rows(self) -> None:
         """What is relaxed then: rows that may be bad, and what one kind of group needs."""
-        step = with_bad_rows(2, Shape("5", 3))
+        stage = with_bad_rows(2, Shape("5", 3))
         asked = (relaxations.bad_rows(9, [0]), relaxations.no_records(), relaxations.misfits(), relaxations.delays())
-        self.assertEqual((step.shapes, step.count, step.every), ((Shape("5", 3),), 2, False))
-        self.assertEqual([bool(step.only and step.only(relaxation)) for relaxation in asked], [True, True, False, False])
+        self.assertEqual((stage.shapes, stage.count, stage.every), ((Shape("5", 3),), 2, False))
+        self.assertEqual([bool(stage.only and stage.only(relaxation)) for relaxation in asked], [True, True, False, False])
 
     def test_time_of_a_question(self) -> None:
-        """A sixth of that of a trial, and five seconds at least."""
+        """A sixth of that of a step, and five seconds at least."""
         for seconds, part in ((60, 10), (31, 5), (36, 6), (9, 5)):
             self.assertEqual(evident([], NoTools({}), Options(("a",), seconds=seconds))[0].options.seconds, part)
 
@@ -712,7 +712,7 @@ class Evidence(unittest.TestCase):
                              ["metadata", "unlike", "perhaps", "tied", "perhaps", "copied without []", "alike without []", "untied"])
 
     def test_encrypted_images_that_nothing_ties(self) -> None:
-        """Only metadata give a reason for a trial then; in a partition others may."""
+        """Only metadata give a reason for a step then; in a partition others may."""
         metadata = Aim((0, 1, 2), Span(0, 300), "metadata", (Shape("0", 3),))
         images = [Image(name, number, 300, first=0) for number, name in enumerate("abc")]
         for closed, partition, more in ((True, False, False), (False, False, True), (True, True, True)):

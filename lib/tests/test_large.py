@@ -30,7 +30,7 @@ from reraid_try.policy.evident import Evident
 from reraid_try.policy.mirrors import Grouped
 from reraid_try.policy.plain import Aim, Span
 from reraid_try.policy.shapes import Shape
-from reraid_try.policy.trials import Trial
+from reraid_try.policy.steps import Step
 from tests.standin import Here, Standin, put
 
 SECTOR, MIB, GIB = 512, 1 << 20, 1 << 30
@@ -411,21 +411,21 @@ class Named(unittest.TestCase):
         self.assertIsNone(plain.named_aim(self.members("raid5", "left-symmetric"), Span(0, 1 << 33), Options(("a",), levels=("6",)), 3))
 
     def test_tested(self) -> None:
-        """Just that set is tested, by its trial."""
-        taken: list[tuple[Trial, Listing]] = []
+        """Just that set is tested, by its step."""
+        taken: list[tuple[Step, Listing]] = []
 
-        def say(_hunt: Any, trial: Trial, listing: Listing) -> Trial:
-            taken.append((trial, listing))
-            return trial
+        def say(_hunt: Any, step: Step, listing: Listing) -> Step:
+            taken.append((step, listing))
+            return step
 
-        def take(_hunt: Any, _trial: Trial, sets: Any, words: Any) -> None:
+        def take(_hunt: Any, _step: Step, sets: Any, words: Any) -> None:
             self.assertEqual([words(it)[1] for it in sets], ["word of " + wanted])
-        search: Any = types.SimpleNamespace(options=Options(("a",)), say_trial=say, take=take)
+        search: Any = types.SimpleNamespace(options=Options(("a",)), say_step=say, take=take)
         hunt: Any = types.SimpleNamespace(asking=types.SimpleNamespace(request=lambda shape: Request()), word=lambda text: "word of " + text)
         for wanted, shape in (("5:ls:none:128:2048:2,0,-,1", Shape("5", 4, 1)), ("near2:128:2048:2,0,-,1", Shape("10", 4, 1))):
             Evident(search).test_named(hunt, Aim((0, 1, 2), Span(0, 9), "why", (shape,), word=wanted), wanted)
-            trial, listing = taken.pop()
-            self.assertEqual(([it.text for it in listing.sets], trial.shape, trial.copied is None), ([wanted], shape, shape.levels == "5"))
+            step, listing = taken.pop()
+            self.assertEqual(([it.text for it in listing.sets], step.shape, step.copied is None), ([wanted], shape, shape.levels == "5"))
 
 
 class Groups(unittest.TestCase):

@@ -144,7 +144,7 @@ class Read(InFolder):
         """With the end that was asked for."""
         tests = self.over(images(9000, 700, 9100), ("reraid mirrorwrite", put("")))
         it = candidate("far2:8:0:0,2", hunt=hunt_of())
-        it.trial = dataclasses.replace(it.trial, copied=Copied((Copying("far", 2),), 2, end=80))
+        it.step = dataclasses.replace(it.step, copied=Copied((Copying("far", 2),), 2, end=80))
         tests.begins(it)
         self.assertEqual(self.asked("mirrorwrite"), ["set=far2:8:0:0,2", "end=80", "--", "i0", "i1", "i2"])
 
@@ -174,10 +174,10 @@ class Numbers(InFolder):
         places, = tests.left_out(it)
         self.assertEqual((places, report.lines), (frozenset({2}), ["  6:la:by-data:8:0:1,3,4,6: 9 rows inconsistent, 9 because of image 4"]))
         lesser = damage.lesser(it, places)
-        self.assertEqual((lesser.word.text, lesser.listed and lesser.listed.text, lesser.trial.relaxed),
+        self.assertEqual((lesser.word.text, lesser.listed and lesser.listed.text, lesser.step.relaxed),
                          ("6:la:by-data:8:0:1,3,-,6", "6:la:by-data:8:0:0,1,-,3", ["without image 4"]))
         both = damage.lesser(it, frozenset({3, 0}))
-        self.assertEqual((both.word.text, both.trial.relaxed), ("6:la:by-data:8:0:-,3,4,-", ["without image 1 and image 6"]))
+        self.assertEqual((both.word.text, both.step.relaxed), ("6:la:by-data:8:0:-,3,4,-", ["without image 1 and image 6"]))
         five = self.found("5:ls:none:8:0:0,1,2,3")
         self.assertEqual(tests.left_out(five), [frozenset({image}) for image in range(4)])
 

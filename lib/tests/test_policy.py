@@ -20,8 +20,8 @@ from reraid_try.policy.mirrors import Mirrors, groupings, is_striped, there
 from reraid_try.policy.plans import Asking
 from reraid_try.policy.questions import First, Questions
 from reraid_try.policy.shapes import Shape, Shapes
-from reraid_try.policy.steps import Step, delayed, of_kinds
-from reraid_try.policy.trials import Trial
+from reraid_try.policy.stages import Stage, delayed, of_kinds
+from reraid_try.policy.steps import Step
 from reraid_try.calls.formats import Ranked
 from reraid_try.calls.sets import NEAR_2, Copying, read_word
 from reraid_try.units import SECTOR
@@ -188,16 +188,16 @@ class OfRelaxations(unittest.TestCase):
         request = relaxations.relaxed(BASE, [relaxations.misfits(), relaxations.bad_rows(9, [0])])
         self.assertEqual((request.get("misfits"), request.get("badrows")), ("8", "9"))
 
-    def test_trial(self) -> None:
+    def test_step(self) -> None:
         plan = plan_of(XFS, EXT)
-        trial = Trial(Shape("5", 3), (relaxations.group_relaxations(plan, True)[1], relaxations.misfits()), BASE.having(misfits=8))
-        self.assertEqual(trial.line(), "RAID 5 of 3 disks; relaxed: without landmark group 0 (xfs, 2 landmarks) and 8 mismatches")
-        self.assertEqual((trial.out, trial.lenient, trial.has_bad_rows, trial.is_bare), (frozenset({0}), True, False, False))
-        self.assertEqual(Trial(Shape("5", 3)).line(), "RAID 5 of 3 disks; relaxed: nothing")
-        self.assertTrue(Trial(Shape("5", 3), (relaxations.bare(plan),), BASE).is_bare)
-        bad = Trial(Shape("5", 3), (), BASE.having(badrows=1))
+        step = Step(Shape("5", 3), (relaxations.group_relaxations(plan, True)[1], relaxations.misfits()), BASE.having(misfits=8))
+        self.assertEqual(step.line(), "RAID 5 of 3 disks; relaxed: without landmark group 0 (xfs, 2 landmarks) and 8 mismatches")
+        self.assertEqual((step.out, step.lenient, step.has_bad_rows, step.is_bare), (frozenset({0}), True, False, False))
+        self.assertEqual(Step(Shape("5", 3)).line(), "RAID 5 of 3 disks; relaxed: nothing")
+        self.assertTrue(Step(Shape("5", 3), (relaxations.bare(plan),), BASE).is_bare)
+        bad = Step(Shape("5", 3), (), BASE.having(badrows=1))
         self.assertEqual((bad.has_bad_rows, bad.lenient), (True, True))
-        self.assertFalse(Trial(Shape("10", 4)).lenient)
+        self.assertFalse(Step(Shape("10", 4)).lenient)
 
 
 class OfAsking(unittest.TestCase):
@@ -302,7 +302,7 @@ class Asked(unittest.TestCase):
         self.assertEqual(questions.first("a", "x"), First("", True))
 
     def test_time_of_a_question(self) -> None:
-        """It is a part of that of a trial, and five seconds at least, and no more than that of the trial that is at work."""
+        """It is a part of that of a step, and five seconds at least, and no more than that of the step that is at work."""
         for seconds, work, part in ((60, 60, 10), (60, 5, 5), (9, 9, 5), (3, 3, 3)):
             questions, standin, late = self.questions(lambda *_: Answer(None))
             questions.program.seconds = work
@@ -515,12 +515,12 @@ class Hunts(InFolder):
         seen = [Image(name, k, 8000) for k, name in enumerate(names)]
         return Hunt(Options(tuple(names)), standin, seen, nobody, pairs), standin
 
-    def test_what_is_asked_in_each_trial(self) -> None:
+    def test_what_is_asked_in_each_step(self) -> None:
         """What is known stands in each request, also in those of relaxations."""
         hunt, standin = self.hunt(lambda *_: put("next 9 of 9\n"))
         known = Hunt(Options(hunt.program.names), standin, hunt.evidence.images, nobody, asked={"chunks": "64", "window": 500})
         for count in (0, 1):
-            _, request = next(known.ways(Shape("0", 3), Step((), count)))
+            _, request = next(known.ways(Shape("0", 3), Stage((), count)))
             self.assertEqual((request.get("chunks"), request.get("window")), ("64", "500"))
 
     def test_listed_once(self) -> None:
@@ -541,12 +541,12 @@ class Hunts(InFolder):
         self.assertEqual(plan and plan.values["levels"], "6")
 
     def test_a_step_is_neither_hasty_nor_asks_for_all(self) -> None:
-        """A step has all relaxations but those for what is mostly wrong, where nothing else is said."""
-        step = Step((Shape("5", 4, 1),), 1)
+        """A stage has all relaxations but those for what is mostly wrong, where nothing else is said."""
+        stage = Stage((Shape("5", 4, 1),), 1)
         hunt, _ = self.hunt(lambda *_: put("next 9 of 9\n"))
-        names = [relaxation.name for relaxation in hunt.asking.relaxations(step.shapes[0], step.every, step.quick)]
-        self.assertEqual((any("each image its own" in name for name in names), step.every), (True, False))
-        self.assertFalse(any("each image its own" in relaxation.name for relaxation in hunt.asking.relaxations(step.shapes[0], quick=True)))
+        names = [relaxation.name for relaxation in hunt.asking.relaxations(stage.shapes[0], stage.every, stage.quick)]
+        self.assertEqual((any("each image its own" in name for name in names), stage.every), (True, False))
+        self.assertFalse(any("each image its own" in relaxation.name for relaxation in hunt.asking.relaxations(stage.shapes[0], quick=True)))
 
     def test_passed_over_is_counted(self) -> None:
         hunt, _ = self.hunt(lambda *_: put("next 9 of 9\n"))
@@ -556,14 +556,14 @@ class Hunts(InFolder):
 
     def test_ways(self) -> None:
         hunt, _ = self.hunt(lambda *_: put("next 9 of 9\n"))
-        self.assertEqual([chosen for chosen, _ in hunt.ways(Shape("0", 3), Step((), 0))], [()])
-        names = [chosen[0].name for chosen, _ in hunt.ways(Shape("5", 3), Step((), 1))]
+        self.assertEqual([chosen for chosen, _ in hunt.ways(Shape("0", 3), Stage((), 0))], [()])
+        names = [chosen[0].name for chosen, _ in hunt.ways(Shape("5", 3), Stage((), 1))]
         self.assertIn("end before a superblock", names)
         allows, _ = self.hunt(lambda *_: put("1 5:la:none:8:0:0,1,2\nnext 2 of 9\n"))
-        names = [chosen[0].name for chosen, _ in allows.ways(Shape("5", 3), Step((), 1))]
+        names = [chosen[0].name for chosen, _ in allows.ways(Shape("5", 3), Stage((), 1))]
         self.assertNotIn("end before a superblock", names)
         self.assertIn("8 mismatches", names)
-        self.assertIn("end before a superblock", [chosen[0].name for chosen, _ in allows.ways(Shape("5", 3), Step((), 1, every=True))])
+        self.assertIn("end before a superblock", [chosen[0].name for chosen, _ in allows.ways(Shape("5", 3), Stage((), 1, every=True))])
 
     def test_ways_of_one_kind(self) -> None:
         """Of parity that stays alone: one way where there is parity, at any offset, and none else. Of what NTFS needs: where there is one."""
@@ -583,7 +583,7 @@ class Hunts(InFolder):
     def test_ways_without_parity(self) -> None:
         """Where parity tells nothing it is not asked which offsets need a relaxation."""
         hunt, standin = self.hunt(lambda *_: put("next 9 of 9\n"))
-        found = [chosen[0].relaxes for chosen, _ in hunt.ways(Shape("0", 3), Step((), 1))]
+        found = [chosen[0].relaxes for chosen, _ in hunt.ways(Shape("0", 3), Stage((), 1))]
         self.assertEqual((RelaxationKind.END in found, standin.count("reraid list")), (True, 0))
 
     def test_listing_is_told(self) -> None:
@@ -613,7 +613,7 @@ class Hunts(InFolder):
         hunt, _ = self.hunt(lambda *_: put("next 9 of 9\n"))
         for count, every, wanted in ((0, False, True), (1, False, False), (1, True, True)):
             with mock.patch.object(hunt.asking, "request", wraps=hunt.asking.request) as asked:
-                next(hunt.ways(Shape("0", 3), Step((), count, every)))
+                next(hunt.ways(Shape("0", 3), Stage((), count, every)))
             self.assertEqual(asked.call_args_list[0][0], (Shape("0", 3), wanted))
 
     def test_zeros_are_asked_of_many_sets(self) -> None:
@@ -659,16 +659,16 @@ class Hunts(InFolder):
 
     def test_checked_by_all_groups(self) -> None:
         hunt, _ = self.hunt(lambda *_: put(""))
-        plan = hunt.checked_by(Trial(Shape("5", 3), (), hunt.asking.bare(Shape("5", 3))))
+        plan = hunt.checked_by(Step(Shape("5", 3), (), hunt.asking.bare(Shape("5", 3))))
         self.assertEqual(plan and len(plan.groups), 2)
-        self.assertIsNone(hunt.checked_by(Trial(Shape("10", 4))))
+        self.assertIsNone(hunt.checked_by(Step(Shape("10", 4))))
 
     def test_checked_over_the_whole_window(self) -> None:
         """What was listed by half of the window is checked over all of it."""
         hunt, _ = self.hunt(lambda *_: put(""))
         half = relaxations.half_window(hunt.plan)
         request = half.of(hunt.asking.request(Shape("5", 3)))
-        plan = hunt.checked_by(Trial(Shape("5", 3), (half,), request))
+        plan = hunt.checked_by(Step(Shape("5", 3), (half,), request))
         self.assertEqual((2 * request.number("window"), plan and int(plan.values["window"])), (hunt.evidence.window, hunt.evidence.window))
 
     def test_mirrors(self) -> None:

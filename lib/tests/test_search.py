@@ -1,4 +1,4 @@
-"""Whole runs over a stand-in for reraid: the order of trials, where a run ends, what is printed, and every status."""
+"""Whole runs over a stand-in for reraid: the order of steps, where a run ends, what is printed, and every status."""
 
 import contextlib
 import io
@@ -32,7 +32,7 @@ from reraid_try.policy.relaxations import RelaxationKind
 from reraid_try.policy.evident import Evident
 from reraid_try.policy.search import Search
 from reraid_try.policy.shapes import Shape
-from reraid_try.policy.trials import Trial
+from reraid_try.policy.steps import Step
 from reraid_try.report.report import Report
 from reraid_try.units import MIB, SECTOR
 from tests.standin import InFolder, Standin, Told, plan_of, put
@@ -80,8 +80,8 @@ class Runs(InFolder):
         """What `write` puts: an XFS of so many bytes, with files behind it."""
         return "reraid write", Answer(0, (b"XFSB" + struct.pack(">IQ", 4096, length // 4096)).ljust(16 * SECTOR, b"\0") + files)
 
-    def trials(self) -> list[str]:
-        """The trials that were printed."""
+    def steps(self) -> list[str]:
+        """The steps that were printed."""
         return [line.split(": ", 1)[1] for line in self.report.lines if line.startswith("step ")]
 
     def test_found_at_once(self) -> None:
@@ -92,7 +92,7 @@ class Runs(InFolder):
         search = self.run_search(self.search(self.listing("levels 5\n"), self.volume(picture)))
         self.assertIs(search.best(), Score.WHOLE)
         self.assertEqual([it.word.text for it in search.tested], [TRUE])
-        self.assertEqual(self.trials()[-1], "RAID 5 of 3 disks; relaxed: nothing: 1 of 84 layouts passes")
+        self.assertEqual(self.steps()[-1], "RAID 5 of 3 disks; relaxed: nothing: 1 of 84 layouts passes")
         self.assertEqual(search.tested[0].rows, "parity is consistent in all 9 rows")
         self.assertIn("hint: data offset 2048 sectors, from landmark super on image 0: sector 2048 less 0; on 1 image", self.report.lines)
 
@@ -164,7 +164,7 @@ class Runs(InFolder):
         self.assertEqual([(it.word.text, it.alike) for it in search.tested],
                          [(TRUE, ["6:ls-6:after-q:128:2048:0,1,2,-", "6:ls:after-q:128:2048:0,1,2,-"])])
 
-    def test_refused_trials_are_said(self) -> None:
+    def test_refused_steps_are_said(self) -> None:
         self.run_search(self.search(("reraid list", put("", 5, "reraid: the product has more than 18446744073709551615 sets\n")), levels=("0",)))
         self.assertIn("  reraid: the product has more than 18446744073709551615 sets", self.report.lines)
 
@@ -188,8 +188,8 @@ class Runs(InFolder):
                                                        put_off=[types.SimpleNamespace(word=read_word(TRUE))]))
         hunt = cast(Any, types.SimpleNamespace(evidence=types.SimpleNamespace(pairs=None)))
         for chosen, known in (((relaxations.told("no landmarks", RelaxationKind.BARE),), set()), ((), {TRUE})):
-            trial = Trial(Shape("5", 3), chosen)
-            search.take(hunt, trial, [Ranked(3, TRUE)], lambda it: (read_word(it.text), read_word(it.text)))
+            step = Step(Shape("5", 3), chosen)
+            search.take(hunt, step, [Ranked(3, TRUE)], lambda it: (read_word(it.text), read_word(it.text)))
             self.assertEqual(search.known, known)
 
     def test_stopped_in_the_midst(self) -> None:

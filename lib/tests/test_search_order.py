@@ -22,8 +22,8 @@ from reraid_try.policy.relaxations import RelaxationKind
 from reraid_try.policy.mirrors import Grouped
 from reraid_try.policy.search import Search
 from reraid_try.policy.shapes import Shape, Tiers
+from reraid_try.policy.stages import Stage
 from reraid_try.policy.steps import Step
-from reraid_try.policy.trials import Trial
 from reraid_try.units import ALL, MIB
 from tests.standin import InFolder, Standin, Told, plan_of
 from tests.test_candidates import candidate, whole
@@ -165,7 +165,7 @@ class Runs(unittest.TestCase):
 
 
 class Steps(unittest.TestCase):
-    """Which trials there are, in which order."""
+    """Which steps there are, in which order."""
 
     damage, parity = "damage 4", ["5.0+0.0 0", "5.0 0", "6.1+5.0 0 quick"]
     late, again = ["5.0+0.0 0", "6.1+5.0 0 quick"], "again"
@@ -175,8 +175,8 @@ class Steps(unittest.TestCase):
 
     def order(self, images: int, best: Callable[[list[str]], Score], run: str, exact: Sequence[Shape] = (FIVE,), ends: str = "", alike: bool = False,
               **values: Any) -> tuple[bool, list[str]]:
-        """Whether the search is at its end, and what was done, where the best is so good after these, and one of them may be enough. Steps that have
-        another time than that of a trial are counted."""
+        """Whether the search is at its end, and what was done, where the best is so good after these, and one of them may be enough. Stages that have
+        another time than that of a step are counted."""
         it, done = search(images, **values), list[str]()
         tiers = Tiers((FIVE, NONE), (SIX, FIVE), (LOST,))
         if alike:
@@ -191,45 +191,45 @@ class Steps(unittest.TestCase):
             self.short += it.hunt.program.seconds == 10
             return what == ends
 
-        def step(what: Step, _hunt: Any = None) -> bool:
+        def stage(what: Stage, _hunt: Any = None) -> bool:
             levels = "+".join(f"{shape.levels}.{shape.missing}" for shape in what.shapes)
             count = what.only.__name__ if what.only else what.count
             return keep(f"{levels or 'none'} {count}" + " quick" * what.quick + " every" * (what.every and what.only is None))
-        with mock.patch.multiple(it, take_step=step, best=lambda: best(done), before_damage=lambda shapes: keep(f"damage {len(shapes)}"),
+        with mock.patch.multiple(it, take_stage=stage, best=lambda: best(done), before_damage=lambda shapes: keep(f"damage {len(shapes)}"),
                                  diagnose=lambda _: done.append("diagnosis"), near_mirrors=lambda _, missing: keep(f"mirrors {missing}")):
             found = bool(getattr(it, run)())
         self.assertEqual(it.hunt.program.seconds, 60)
         return found, done
 
-    def test_first_trials(self) -> None:
+    def test_first_steps(self) -> None:
         """What is plain comes first: parity, the rest, and RAID 10 with a disk lost too of an odd number of images; nothing of that where level 10 is
-        not asked for. Each takes a part of the time of a trial; parity that needs more has it then, before anything is relaxed."""
+        not asked for. Each takes a part of the time of a step; parity that needs more has it then, before anything is relaxed."""
         then = [self.again, *self.late, *self.stays, *self.relaxed]
         odd = [self.damage, *self.parity, "6.2 0", "mirrors 0", "mirrors 1", *then, "diagnosis", *self.rest]
-        self.assertEqual((self.order(3, lambda _: Score.NOTHING, "first_trials"), self.short), ((False, odd), 11))
+        self.assertEqual((self.order(3, lambda _: Score.NOTHING, "first_steps"), self.short), ((False, odd), 11))
         even = [self.damage, *self.parity, "6.2 0", "mirrors 0", *then, "diagnosis", "mirrors 1", *self.rest]
-        self.assertEqual((self.order(4, lambda _: Score.NOTHING, "first_trials"), self.short), ((False, even), 10))
+        self.assertEqual((self.order(4, lambda _: Score.NOTHING, "first_steps"), self.short), ((False, even), 10))
         known = [self.damage, *self.parity, "6.2 0", *then, *self.rest]
-        self.assertEqual(self.order(4, lambda _: Score.KNOWN, "first_trials", levels=("5",)), (False, known))
-        self.assertEqual(self.order(4, lambda _: Score.NOTHING, "first_trials", (LOST,), levels=("5",))[1][2], "none 0")
+        self.assertEqual(self.order(4, lambda _: Score.KNOWN, "first_steps", levels=("5",)), (False, known))
+        self.assertEqual(self.order(4, lambda _: Score.NOTHING, "first_steps", (LOST,), levels=("5",))[1][2], "none 0")
 
     def test_images_that_are_the_same(self) -> None:
         """RAID 10 comes before all else that is plain then."""
-        done = self.order(3, lambda _: Score.NOTHING, "first_trials", alike=True)[1]
+        done = self.order(3, lambda _: Score.NOTHING, "first_steps", alike=True)[1]
         self.assertEqual(done[:8], [self.damage, "mirrors 0", "mirrors 1", *self.parity, "6.2 0", self.again])
 
     def test_where_first_trials_end(self) -> None:
         """Where a candidate is content, with something relaxed: what is plain is gone through, but for the rest where parity finds one."""
-        few = self.order(4, lambda done: Score.CHECKED if "5.0+0.0 0" in done else Score.NOTHING, "first_trials", levels=("5",))
+        few = self.order(4, lambda done: Score.CHECKED if "5.0+0.0 0" in done else Score.NOTHING, "first_steps", levels=("5",))
         self.assertEqual(few, (True, [self.damage, *self.parity, "5.0+0.0 1"]))
-        plain = self.order(4, lambda done: Score.CHECKED if "6.2 0" in done else Score.NOTHING, "first_trials")
+        plain = self.order(4, lambda done: Score.CHECKED if "6.2 0" in done else Score.NOTHING, "first_steps")
         self.assertEqual(plain, (True, [self.damage, *self.parity, "6.2 0", "mirrors 0", "5.0+0.0 1"]))
-        late = self.order(4, lambda done: Score.CHECKED if self.rest[1] in done else Score.NOTHING, "first_trials", levels=("5",))
+        late = self.order(4, lambda done: Score.CHECKED if self.rest[1] in done else Score.NOTHING, "first_steps", levels=("5",))
         self.assertEqual((late[0], late[1][-1]), (True, self.rest[1]))
 
     def test_what_is_enough_ends_it(self) -> None:
         """Wherever it is found, the first time that it is asked for."""
-        for images, run in ((3, "first_trials"), (4, "first_trials"), (4, "further_trials")):
+        for images, run in ((3, "first_steps"), (4, "first_steps"), (4, "further_steps")):
             done = self.order(images, lambda _: Score.NOTHING, run)[1]
             for place, what in enumerate(done):
                 if what not in ("diagnosis", self.again) and what not in done[:place]:
@@ -237,14 +237,14 @@ class Steps(unittest.TestCase):
 
     def test_parity_that_stays(self) -> None:
         """It is asked for until a candidate is content."""
-        done = self.order(4, lambda done: Score.CHECKED if "6.1 stays" in done else Score.NOTHING, "first_trials", levels=("5",))
+        done = self.order(4, lambda done: Score.CHECKED if "6.1 stays" in done else Score.NOTHING, "first_steps", levels=("5",))
         self.assertEqual(done, (True, [self.damage, *self.parity, "6.2 0", self.again, *self.late, *self.stays[:3], "5.0+0.0 1"]))
 
-    def test_further_trials(self) -> None:
+    def test_further_steps(self) -> None:
         """Until something is known."""
         told = ["6.1+5.0 2", "6.1+5.0 3", "6.2 2", "5.0+0.0+6.1+5.0+6.2 2 every", "5.0+0.0 3 every"]
-        self.assertEqual(self.order(3, lambda _: Score.NOTHING, "further_trials"), (False, told))
-        self.assertEqual(self.order(3, lambda done: Score.KNOWN if len(done) > 1 else Score.NOTHING, "further_trials"), (True, told[:2]))
+        self.assertEqual(self.order(3, lambda _: Score.NOTHING, "further_steps"), (False, told))
+        self.assertEqual(self.order(3, lambda done: Score.KNOWN if len(done) > 1 else Score.NOTHING, "further_steps"), (True, told[:2]))
 
     def test_a_step(self) -> None:
         """The ways of each shape in their order, until one is enough."""
@@ -257,9 +257,9 @@ class Steps(unittest.TestCase):
         it.hunt = cast(Any, types.SimpleNamespace(ways=lambda shape, *_: ways[shape]))
         other = cast(Any, types.SimpleNamespace(ways=lambda *_: [((), BASE.having(window=9))]))
         with mock.patch.object(it, "attempt", attempt):
-            self.assertTrue(it.take_step(Step((FIVE, SIX), 1)))
-            self.assertFalse(it.take_step(Step((FIVE,), 1)))
-            self.assertFalse(it.take_step(Step((FIVE,), 1), other))
+            self.assertTrue(it.take_stage(Stage((FIVE, SIX), 1)))
+            self.assertFalse(it.take_stage(Stage((FIVE,), 1)))
+            self.assertFalse(it.take_stage(Stage((FIVE,), 1), other))
         self.assertEqual(tried, [(FIVE, 0), (SIX, 1), (FIVE, 0), (FIVE, 9)])
 
     def test_without_landmarks(self) -> None:
@@ -285,13 +285,13 @@ class Steps(unittest.TestCase):
             it.tested = [cast(Any, tested(score, "5:la:none:8:0:0,1,2"))]
             it.hunt = hunt(passed_over=2)
             it.tests = cast(Any, types.SimpleNamespace(put_off=[one, again, other], test_late=lambda: [one]))
-            with mock.patch.multiple(it, first_trials=lambda first=first: first, further_trials=lambda further=further: further,
+            with mock.patch.multiple(it, first_steps=lambda first=first: first, further_steps=lambda further=further: further,
                                      keep=lambda found, kept=kept: kept.extend(found)):
                 it.try_all()
             self.assertEqual((kept, it.tests.put_off == [one]), ([one] * late, late))
             self.assertEqual(cast(Standin, it.commands).noted, ["# skipped 2 steps: landmarks by themselves, or parity by itself, allow no layout"])
         it.hunt.passed_over = 0
-        with mock.patch.multiple(it, first_trials=lambda: True):
+        with mock.patch.multiple(it, first_steps=lambda: True):
             it.try_all()
         self.assertEqual(len(cast(Standin, it.commands).noted), 1)
 
@@ -300,7 +300,7 @@ class Damage(unittest.TestCase):
     """What is tried first where maps tell of bad rows."""
 
     def tried(self, unread: int, groups: bool = True, ends: int = 0) -> tuple[bool, list[str]]:
-        """Whether the search is at its end, and the trials, of which one may be enough."""
+        """Whether the search is at its end, and the steps, of which one may be enough."""
         it, done = search(), list[str]()
 
         def attempt(_hunt: Any, shape: Shape, chosen: tuple[relaxations.Relaxation, ...], few: Any, tested_by: Any = None) -> bool:
@@ -352,8 +352,8 @@ class Mirrored(unittest.TestCase):
         """Whether the search is at its end, and what was done with these sets."""
         it, done = search(), list[str]()
 
-        def taken(_hunt: Any, trial: Trial, sets: Sequence[Ranked], _words: Any) -> bool:
-            done.append(f"take {trial.line()} {' '.join(one.text for one in sets)}")
+        def taken(_hunt: Any, step: Step, sets: Sequence[Ranked], _words: Any) -> bool:
+            done.append(f"take {step.line()} {' '.join(one.text for one in sets)}")
             return take
 
         def group(_hunt: Any, found: Any) -> bool:
@@ -366,9 +366,9 @@ class Mirrored(unittest.TestCase):
 
     def test_what_is_listed(self) -> None:
         """What is a RAID 0 of one of each pair is searched as such, and the others are tested; all of it, also where one is enough."""
-        trial = "take RAID 10 of 4 disks, 1 missing, copies near2; relaxed: nothing"
-        self.assertEqual(self.listed("near2:8:0:0,1,2,-", "near2:8:0:0,1,2"), (False, [f"{trial} near2:8:0:0,1,2", "groups ((0, 1), (2,))"]))
-        self.assertEqual(self.listed("near2:8:0:0,1,2,-", take=True), (True, [f"{trial} ", "groups ((0, 1), (2,))"]))
+        step = "take RAID 10 of 4 disks, 1 missing, copies near2; relaxed: nothing"
+        self.assertEqual(self.listed("near2:8:0:0,1,2,-", "near2:8:0:0,1,2"), (False, [f"{step} near2:8:0:0,1,2", "groups ((0, 1), (2,))"]))
+        self.assertEqual(self.listed("near2:8:0:0,1,2,-", take=True), (True, [f"{step} ", "groups ((0, 1), (2,))"]))
         self.assertEqual(self.listed("near2:8:0:0,1,2,-", grouped=True)[0], True)
 
     def test_refused(self) -> None:
@@ -380,12 +380,12 @@ class Mirrored(unittest.TestCase):
 
 
 class Attempts(unittest.TestCase):
-    """One trial."""
+    """One step."""
 
     def attempt(self, plan: Any = "plan", may: bool = True, listing: Listing | Refused = Listing((), 9, True), last: bool = False,
-                tested_by: Any = BASE.having(window=7), **values: Any) -> tuple[bool, list[str], list[Trial]]:
-        """What a trial gives, what was asked, and what was taken, of a hunt that says this."""
-        it, asked, taken = search(**values), list[str](), list[Trial]()
+                tested_by: Any = BASE.having(window=7), **values: Any) -> tuple[bool, list[str], list[Step]]:
+        """What a step gives, what was asked, and what was taken, of a hunt that says this."""
+        it, asked, taken = search(**values), list[str](), list[Step]()
 
         def listed(*_: Any) -> Listing:
             asked.append("listing")
@@ -393,8 +393,8 @@ class Attempts(unittest.TestCase):
                 raise listing
             return listing
 
-        def take(_hunt: Any, trial: Trial, *_: Any) -> bool:
-            taken.append(trial)
+        def take(_hunt: Any, step: Step, *_: Any) -> bool:
+            taken.append(step)
             return True
 
         def may_list(*_: Any) -> bool:
@@ -415,20 +415,20 @@ class Attempts(unittest.TestCase):
         self.attempt(may=False, show=True)
         self.assertEqual(self.printed, ["skipped: RAID 5 of 3 disks; relaxed: badrows 99 and 8 mismatches"])
         self.assertEqual(self.attempt(may=False, last=True)[1], ["listing"])
-        told, asked, (trial,) = self.attempt()
-        self.assertEqual((told, asked, trial.number, trial.relaxed, trial.request),
+        told, asked, (step,) = self.attempt()
+        self.assertEqual((told, asked, step.number, step.relaxed, step.request),
                          (True, ["may", "listing"], 1, ["badrows 99", "8 mismatches"], BASE.having(window=7)))
         self.assertEqual(self.printed, ["step 1: RAID 5 of 3 disks; relaxed: badrows 99 and 8 mismatches: 0 of 9 layouts pass"])
         self.assertEqual((self.search.shapes_tried, self.search.was_late), ({"RAID 5 of 3 disks"}, False))
 
     def test_bad_rows_that_were_found(self) -> None:
-        """The trial names how many rows it took."""
-        _, _, (trial,) = self.attempt(listing=Listing((), 9, False, "late", bad_rows=32))
-        self.assertEqual((trial.relaxed, self.search.was_late), (["badrows 32", "8 mismatches"], True))
-        _, _, (trial,) = self.attempt(listing=Listing((), 9, False, "late", bad_rows=32), tested_by=None)
-        self.assertEqual(trial.request, BASE.having(badrows=32))
-        _, _, (trial,) = self.attempt(tested_by=None)
-        self.assertEqual(trial.request, BASE)
+        """The step names how many rows it took."""
+        _, _, (step,) = self.attempt(listing=Listing((), 9, False, "late", bad_rows=32))
+        self.assertEqual((step.relaxed, self.search.was_late), (["badrows 32", "8 mismatches"], True))
+        _, _, (step,) = self.attempt(listing=Listing((), 9, False, "late", bad_rows=32), tested_by=None)
+        self.assertEqual(step.request, BASE.having(badrows=32))
+        _, _, (step,) = self.attempt(tested_by=None)
+        self.assertEqual(step.request, BASE)
 
     def test_refused(self) -> None:
         self.assertEqual(self.attempt(listing=Refused("reraid: no"))[0], False)
@@ -439,15 +439,15 @@ class Attempts(unittest.TestCase):
         it = search()
         self.assertEqual((it.number, it.said_on, it.was_late, it.solved), (0, False, False, False))
         over = cast(Any, types.SimpleNamespace(asking=types.SimpleNamespace(unread_relaxation=lambda *_: ())))
-        late = [(it.say_trial(over, Trial(FIVE), Listing((), 9, whole)).number, it.was_late) for whole in (True, False, True)]
+        late = [(it.say_step(over, Step(FIVE), Listing((), 9, whole)).number, it.was_late) for whole in (True, False, True)]
         self.assertEqual(late, [(1, False), (2, True), (3, True)])
         it = search()
         it.say_late("parity allows", 1)
         self.assertTrue(it.was_late)
         self.assertIn("timed out after 1 s: it is not known whether parity allows a layout", said(it)[0])
 
-    def test_why_before_a_trial(self) -> None:
-        """Why it goes on stands before the next trial, which is shown while it is at work."""
+    def test_why_before_a_step(self) -> None:
+        """Why it goes on stands before the next step, which is shown while it is at work."""
         it = search()
         over = types.SimpleNamespace(to_list=lambda *_: None)
         with mock.patch.object(it, "why_on") as why, mock.patch.object(it.report.bar, "show") as show:
@@ -496,11 +496,11 @@ class Seen(InFolder):
         """They are said, and searched as a RAID 0 of one image of each: with up to two things relaxed, and then without landmarks."""
         over = types.SimpleNamespace(evidence=types.SimpleNamespace(images=search(4).images, start=64))
         grouped = Grouped(((0, 2), (1,)), 2, (2048,))
-        steps = ["evidence", "step 0", "step 1", "step 2"]
-        for shapes, ends, wanted in (((NONE, FIVE), 9, [*steps, "bare 0"]), ((), 9, steps), ((NONE,), 2, steps[:2])):
+        stages = ["evidence", "step 0", "step 1", "step 2"]
+        for shapes, ends, wanted in (((NONE, FIVE), 9, [*stages, "bare 0"]), ((), 9, stages), ((NONE,), 2, stages[:2])):
             it, done = search(), list[str]()
 
-            def step(what: Step, _hunt: Any, done: list[str] = done, ends: int = ends) -> bool:
+            def stage(what: Stage, _hunt: Any, done: list[str] = done, ends: int = ends) -> bool:
                 done.append(f"step {what.count}")
                 return len(done) == ends
 
@@ -508,7 +508,7 @@ class Seen(InFolder):
                 done.append(f"bare {shape.levels}")
                 return True
             with mock.patch("reraid_try.policy.search.Hunt") as made, \
-                    mock.patch.multiple(it, take_step=step, attempt_bare=bare, say_evidence=lambda _, done=done: done.append("evidence")):
+                    mock.patch.multiple(it, take_stage=stage, attempt_bare=bare, say_evidence=lambda _, done=done: done.append("evidence")):
                 made.return_value.shapes.tiers.return_value = Tiers(rest=shapes)
                 self.assertEqual(it.grouped(cast(Any, over), grouped), bool(shapes))
             self.assertEqual((done, said(it)), (wanted, ["  pairs 0=2 image 1 without a copy: a RAID 0 of 2 disks"]))
@@ -517,9 +517,9 @@ class Seen(InFolder):
 
 
 class Taken(unittest.TestCase):
-    """What becomes of the sets of a trial."""
+    """What becomes of the sets of a step."""
 
-    def take(self, trial: Trial, texts: Sequence[str], known: Sequence[str] = (), pairs: object = None, found: bool = True, end: bool = False,
+    def take(self, step: Step, texts: Sequence[str], known: Sequence[str] = (), pairs: object = None, found: bool = True, end: bool = False,
              unseen: Sequence[str] = (), late: Sequence[str] = ()) -> tuple[bool, Search, list[Candidate]]:
         """Whether one is clean and whole, the search, and the candidates that were tested; in their volumes something may be found. Those of some
         sets are not looked at, and some of these are put off."""
@@ -541,28 +541,28 @@ class Taken(unittest.TestCase):
 
         def words(one: Ranked) -> tuple[Word | None, Word]:
             return None, read_word(one.text)
-        return it.take(cast(Any, over), trial, list(map(Ranked, range(9), texts)), words), it, asked
+        return it.take(cast(Any, over), step, list(map(Ranked, range(9), texts)), words), it, asked
 
     def test_too_many(self) -> None:
         """Sets that were not looked at since they were too many may be listed again; those that are put off, and those that give a volume that was
         looked at, may not."""
         texts = [f"5:ls:none:8:{offset}:0,1,2" for offset in (0, 8, 16)]
-        _, it, _ = self.take(Trial(FIVE), texts, unseen=texts[1:], late=texts[2:])
+        _, it, _ = self.take(Step(FIVE), texts, unseen=texts[1:], late=texts[2:])
         self.assertEqual(it.known, {texts[0], texts[2]})
         one, other = candidate(texts[0], whole()), candidate(texts[1])
         one.alike.append(texts[1])
-        self.assertEqual(it.left_of(Trial(FIVE), [one, other]), set())
+        self.assertEqual(it.left_of(Step(FIVE), [one, other]), set())
 
     def test_the_simplest_once(self) -> None:
         """Sets of one volume are one candidate, and none that is known is tested again."""
         texts = ["6:ls-6:after-q:8:0:0,1,2,-", "5:ls:none:8:0:0,1,2", "5:la:none:8:0:0,1,2"]
-        told, it, asked = self.take(Trial(FIVE), texts)
+        told, it, asked = self.take(Step(FIVE), texts)
         self.assertEqual((told, [(one.word.text, one.alike, one.rank) for one in asked]),
                          (True, [("5:ls:none:8:0:0,1,2", ["6:ls-6:after-q:8:0:0,1,2,-"], 0), ("5:la:none:8:0:0,1,2", [], 2)]))
         self.assertEqual((it.known, it.tested), ({"5:ls:none:8:0:0,1,2", "5:la:none:8:0:0,1,2"}, asked))
-        again = self.take(Trial(FIVE), texts, ["5:ls:none:8:0:0,1,2", "5:la:none:8:0:0,1,2"])
+        again = self.take(Step(FIVE), texts, ["5:ls:none:8:0:0,1,2", "5:la:none:8:0:0,1,2"])
         self.assertEqual((again[0], again[2]), (False, []))
-        one = self.take(Trial(FIVE), texts, ["5:ls:none:8:0:0,1,2"])[2]
+        one = self.take(Step(FIVE), texts, ["5:ls:none:8:0:0,1,2"])[2]
         self.assertEqual([(it.word.text, it.alike) for it in one], [("5:la:none:8:0:0,1,2", [])])
 
     def test_what_is_kept_without_landmarks(self) -> None:
@@ -570,18 +570,18 @@ class Taken(unittest.TestCase):
         bare = (relaxations.told("no landmarks", RelaxationKind.BARE),)
         for shape, pairs, kept in ((FIVE, None, 1), (NONE, None, 0), (NONE, object(), 1)):
             text = "5:ls:none:8:0:0,1,2" if shape is FIVE else "0:plain:none:8:0:0,1,2"
-            self.assertEqual(len(self.take(Trial(shape, bare), [text], pairs=pairs, found=False)[1].tested), kept)
-        self.assertEqual(len(self.take(Trial(NONE, bare), ["0:plain:none:8:0:0,1,2"])[1].tested), 1)
-        self.assertEqual(len(self.take(Trial(NONE), ["0:plain:none:8:0:0,1,2"], found=False)[1].tested), 1)
+            self.assertEqual(len(self.take(Step(shape, bare), [text], pairs=pairs, found=False)[1].tested), kept)
+        self.assertEqual(len(self.take(Step(NONE, bare), ["0:plain:none:8:0:0,1,2"])[1].tested), 1)
+        self.assertEqual(len(self.take(Step(NONE), ["0:plain:none:8:0:0,1,2"], found=False)[1].tested), 1)
         texts = ["5:ls:none:8:0:0,1,2", "5:la:none:8:0:0,1,2"]
-        self.assertEqual(self.take(Trial(FIVE, bare), texts, unseen=texts[:1])[1].known, {texts[1]})
-        self.assertEqual(self.take(Trial(FIVE), texts, unseen=texts[:1], late=texts[:1])[1].known, set(texts))
+        self.assertEqual(self.take(Step(FIVE, bare), texts, unseen=texts[:1])[1].known, {texts[1]})
+        self.assertEqual(self.take(Step(FIVE), texts, unseen=texts[:1], late=texts[:1])[1].known, set(texts))
 
     def test_without_damaged_images(self) -> None:
         """What is whole without an image that makes rows unsound ends it too."""
         text = "6:ls:after-q:8:0:0,1,3,2"
-        self.assertEqual([self.take(Trial(SIX), [text], found=False, end=end)[0] for end in (False, True)], [False, True])
-        self.assertEqual(len(self.take(Trial(SIX), [text], end=True)[1].tested), 2)
+        self.assertEqual([self.take(Step(SIX), [text], found=False, end=end)[0] for end in (False, True)], [False, True])
+        self.assertEqual(len(self.take(Step(SIX), [text], end=True)[1].tested), 2)
 
     def test_stopped(self) -> None:
         """What was looked at until then is kept."""

@@ -16,7 +16,7 @@ from reraid_try.policy.evident import Evident
 from reraid_try.policy.hunt import Hunt
 from reraid_try.policy.plain import Aim, Span
 from reraid_try.policy.shapes import Shape
-from reraid_try.policy.trials import Trial
+from reraid_try.policy.steps import Step
 from reraid_try.units import SECTOR
 from tests.standin import InFolder, Standin, Told, plan_of, put
 from tests.test_policy import XFS
@@ -117,32 +117,32 @@ class Thousands(InFolder):
         self.assertEqual(thousands.Most(ZERO, plan, plan.groups[1], 300).line(None),
                          "300 of 361 inode pairs of an ext4 lie at the places that the block group descriptors state")
 
-    def attempted(self, hunt: Hunt, whole: bool = False) -> tuple[bool, list[str], list[tuple[Trial, list[str]]]]:
-        """Whether the search is at its end, what was said, and the trials with the sets that were tested."""
-        report, tested = Told(), list[tuple[Trial, list[str]]]()
+    def attempted(self, hunt: Hunt, whole: bool = False) -> tuple[bool, list[str], list[tuple[Step, list[str]]]]:
+        """Whether the search is at its end, what was said, and the steps with the sets that were tested."""
+        report, tested = Told(), list[tuple[Step, list[str]]]()
 
-        def take(_hunt: Hunt, trial: Trial, sets: Any, words_of: Any) -> bool:
-            tested.append((trial, [words_of(it)[1].text for it in sets]))
+        def take(_hunt: Hunt, step: Step, sets: Any, words_of: Any) -> bool:
+            tested.append((step, [words_of(it)[1].text for it in sets]))
             return whole
 
-        def say_trial(_hunt: Hunt, trial: Trial, _listing: Any) -> Trial:
+        def say_step(_hunt: Hunt, step: Step, _listing: Any) -> Step:
             report.put(search.why)
-            return trial
-        search: Any = types.SimpleNamespace(report=report, why="before", take=take, say_trial=say_trial, say_refused=report.put)
+            return step
+        search: Any = types.SimpleNamespace(report=report, why="before", take=take, say_step=say_step, say_refused=report.put)
         done = thousands.attempt_all(search, hunt, SHAPES, BOTH)
         self.assertEqual(search.why, "before")
         return done, report.lines, tested
 
-    def test_trial(self) -> None:
+    def test_step(self) -> None:
         """The sets with the most are tested, with their reason, by what is asked for where nothing is relaxed."""
         hunt = self.hunt({"0": [5], "5": [14, 9, 14], "6": [9]}, 16)
         done, said, tested = self.attempted(hunt)
         why = "14 of 16 inodes of an XFS lie at the places that their numbers state; with the next layout, 9 do"
         self.assertEqual((done, said), (False, [f"  {why}", why]))
-        (trial, words), = tested
-        self.assertEqual((trial.line(), words), ("RAID 5 of 4 disks, 1 missing; relaxed: only the inodes of an XFS, as many as match",
-                                                 ["5:ls:none:128:2048:0,1,2,-"] * 2))
-        self.assertEqual((trial.request, trial.out, trial.is_bare), (hunt.asking.request(FIVE), frozenset({0}), False))
+        (step, words), = tested
+        self.assertEqual((step.line(), words), ("RAID 5 of 4 disks, 1 missing; relaxed: only the inodes of an XFS, as many as match",
+                                                ["5:ls:none:128:2048:0,1,2,-"] * 2))
+        self.assertEqual((step.request, step.out, step.is_bare), (hunt.asking.request(FIVE), frozenset({0}), False))
 
     def test_end(self) -> None:
         """A set that is whole ends the search; where no other set has any fits, none is named."""
@@ -156,8 +156,8 @@ class Thousands(InFolder):
 
     def test_few(self) -> None:
         """Sets at which fewer than a tenth of a group lie where they say are not tried: far copies have as many by chance."""
-        for marks, trials in ((20, 1), (21, 0)):
-            self.assertEqual(len(self.attempted(self.hunt({"0": [], "5": [2], "6": []}, marks))[2]), trials)
+        for marks, steps in ((20, 1), (21, 0)):
+            self.assertEqual(len(self.attempted(self.hunt({"0": [], "5": [2], "6": []}, marks))[2]), steps)
 
     def test_refused(self) -> None:
         """What the program refuses is said, and the search goes on."""
@@ -190,7 +190,7 @@ class Asked(unittest.TestCase):
         return asked
 
     def test_known(self) -> None:
-        """Only where the program knows the kind and a superblock was seen is anything asked; what is content ends the trials of the aim."""
+        """Only where the program knows the kind and a superblock was seen is anything asked; what is content ends the steps of the aim."""
         for kinds, groups in ((("xfs5",), ("gpt", "xfs")), (("btrfstree",), ("btrfs",)), (("xfs5", "btrfstree"), ("btrfs", "xfs")),
                               (("extinode",), ("ext",))):
             self.assertEqual(self.by_thousands(kinds, groups)[:1], ["survey"])

@@ -310,7 +310,7 @@ class UnlikeOffsets(unittest.TestCase):
         self.assertEqual((found[0], self.known.family.parity, self.known.family.lost), (self.starts, 0, 1))
 
     def test_time(self) -> None:
-        """No way is asked about where the sixth part of a trial's time is up."""
+        """No way is asked about where the sixth part of a step's time is up."""
         it = self.array(rows.striped(random.Random(9), 4, 5, 400))
         it[0].seconds = -1
         self.assertEqual(self.offsets(it, Shift(0, 2, 48, 40), Shift(1, 3, 16, 30)), [])

@@ -11,7 +11,7 @@ from .formats import Checked, Page, Ranked
 from .plans import Plan
 from .sets import NEAR_2, Copying, Word
 
-# As many lines as a trial lists at most, and as many sets as one command looks at, at least; there are so many times as many such parts as jobs.
+# As many lines as a step lists at most, and as many sets as one command looks at, at least; there are so many times as many such parts as jobs.
 MOST_LINES, SPAN, PARTS = 20_000, 4_000_000, 16
 # The greatest rank, and the widest range.
 LAST = (1 << 64) - 1
@@ -19,7 +19,7 @@ LAST = (1 << 64) - 1
 
 @dataclasses.dataclass(frozen=True)
 class Listing:
-    """What a trial listed: its sets, how many the plan has (None where others were not counted), whether all of them were looked at, and how many
+    """What a step listed: its sets, how many the plan has (None where others were not counted), whether all of them were looked at, and how many
     rows might be bad, where that was not known before."""
 
     sets: tuple[Ranked, ...]
@@ -66,7 +66,7 @@ class Program:
         return total
 
     def page(self, text: str, first: int = 0, span: int = LAST, most: int = MOST_LINES, seconds: int | None = None) -> Page:
-        """One page of a plan; what of it was put, where its time was up, which is that of a trial where nothing else is said."""
+        """One page of a plan; what of it was put, where its time was up, which is that of a step where nothing else is said."""
         words = ["reraid", "list", f"from={first}", f"span={span}", f"size={most}", "--", *self.names]
         answer = self.commands.run(words, text, self.seconds if seconds is None else seconds)
         if answer.status:

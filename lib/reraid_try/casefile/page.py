@@ -44,7 +44,7 @@ TYPED, ENDS = "to mount it read-only, as root:", "to undo that:"
 # The events that say what was taken from the images, and those that say what was not tried or not to its end.
 SAID = ("resume", "taken over", "fill", "place", "relation", "metadata", "copies", "unlike", "reason", "group", "hint", "pairs")
 LEFT = ("not tried", "late", "failed", "many", "put off", "doubtful", "begins")
-TRIALS = (("step", True), ("what", False), ("why", False), ("relaxed", False), ("layouts", True), ("outcome", False))
+STEPS = (("step", True), ("what", False), ("why", False), ("relaxed", False), ("layouts", True), ("outcome", False))
 CANDIDATES = (("candidate", True), ("rating", False), ("layout", False), ("relaxed", False), ("rows and landmarks", False), ("its volume", False))
 
 
@@ -70,7 +70,7 @@ class Page:
 
     def whole(self) -> str:
         """All of it."""
-        parts = [self.head(), self.best(), self.terms(), self.lost_files(), Disks(self.record).made(), self.said(), self.trials(), self.not_tried(),
+        parts = [self.head(), self.best(), self.terms(), self.lost_files(), Disks(self.record).made(), self.said(), self.steps(), self.not_tried(),
                  self.candidates(), self.nearest(), self.made_with()]
         title = f"reraid-try, {self.run['began']}" if self.run else "reraid-try"
         return HEAD.format(title=text(title), style=STYLE) + "\n".join(filter(None, parts)) + "\n</body>\n</html>\n"
@@ -127,23 +127,23 @@ class Page:
         hints = bullets(dict.fromkeys(it["text"].strip() for it in self.record.of(*SAID)))
         return section("Evidence from the images", hints) if hints else ""
 
-    def trials(self) -> str:
+    def steps(self) -> str:
         """What was tried: the reasons, what was relaxed, and what came of it."""
         rows = [(str(it["number"]), text(it["shape"]), text(it.get("reason", "")), text(" and ".join(it["loosened"]) or "nothing"),
                  f"{it['listed']:,}" + ("" if it["total"] is None else f" of {it['total']:,}"), text(self.outcome(it)))
                 for it in self.record.of("trial")]
-        return section("What was tried", table(TRIALS, rows)) if rows else ""
+        return section("What was tried", table(STEPS, rows)) if rows else ""
 
-    def outcome(self, trial: Event) -> str:
-        """What came of a trial: its note, and which candidates are of it."""
-        classes = [int(it["class"]) for it in self.found if it.get("trial") == trial["number"]]
-        told = [trial["note"]] if trial.get("note") else []
-        told += ["its layouts were deferred"] if trial["number"] in self.put_off() else []
-        told += [f"candidates: {runs(classes)}"] if classes else ["no new candidate" if trial["listed"] else "no layout passes"]
+    def outcome(self, step: Event) -> str:
+        """What came of a step: its note, and which candidates are of it."""
+        classes = [int(it["class"]) for it in self.found if it.get("trial") == step["number"]]
+        told = [step["note"]] if step.get("note") else []
+        told += ["its layouts were deferred"] if step["number"] in self.put_off() else []
+        told += [f"candidates: {runs(classes)}"] if classes else ["no new candidate" if step["listed"] else "no layout passes"]
         return "; ".join(told)
 
     def put_off(self) -> set[int]:
-        """The trials whose sets were put off, which is said right behind each."""
+        """The steps whose sets were put off, which is said right behind each."""
         found, number = set(), 0
         for it in self.record.of("trial", "put off"):
             if it["event"] == "trial":

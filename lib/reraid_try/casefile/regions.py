@@ -44,7 +44,7 @@ def moved(word: Word, by: int) -> Word:
 
 def regions(it: Candidate, jobs: int) -> list[Region]:
     """The parts of a candidate, of which parity tells something; none of others."""
-    request = it.trial.request
+    request = it.step.request
     if it.listed is None or request is None or it.word.is_mirrored or it.listed.spare < 1:
         return []
     word: Word = it.listed

@@ -9,7 +9,7 @@ from .systems import System
 from .verdicts import Verdict
 from .volumes import Region, Room, Volume
 
-# Seconds by which a checker of one image is limited, as of a trial: it may take ten times as long.
+# Seconds by which a checker of one image is limited, as of a step: it may take ten times as long.
 SECONDS = 2
 # The most bytes of a file system that is copied for its checker, which takes no place within a file.
 MOST_COPIED = GIB

@@ -8,7 +8,7 @@ from ..calls.formats import Held
 from ..calls.plans import Plan
 from ..calls.sets import Word
 from ..policy.hunt import Hunt
-from ..policy.trials import Trial
+from ..policy.steps import Step
 from .verdicts import Score, Verdict
 
 # A set of which more than one in so many filled rows is unsound is doubtful.
@@ -31,7 +31,7 @@ class Inside:
 
 @dataclasses.dataclass
 class Candidate:
-    """A set that passed a trial of a hunt. `word` is the simplest set of its volume; `listed` that which was listed, by the images of the hunt, None
+    """A set that passed a step of a hunt. `word` is the simplest set of its volume; `listed` that which was listed, by the images of the hunt, None
     for RAID 10 by its copies. `alike` has the other sets of its class, `groups` what `check` says of each group, `unsound` how many rows are
     unsound, None where that was not asked; `doubted` says that as much speaks against it for another reason, `left_most` that a group with most of
     the marks was left out, and does not hold, `rivalled` how another candidate contradicts it that has more for itself. `rows` says in which rows
@@ -41,7 +41,7 @@ class Candidate:
 
     word: Word
     rank: int
-    trial: Trial
+    step: Step
     hunt: Hunt
     listed: Word | None = None
     alike: list[str] = dataclasses.field(default_factory=list)
@@ -75,7 +75,7 @@ class Candidate:
     @property
     def end(self) -> int | None:
         """Where its members end, where that is another place than the end of the shortest image and its volume depends on it; None else."""
-        copied = self.trial.copied
+        copied = self.step.copied
         return copied.end if copied and self.word.needs_end else None
 
     @property
@@ -127,8 +127,8 @@ class Candidate:
 
     @property
     def order(self) -> tuple[int, int, int]:
-        """What it is tested by: how much was relaxed, the trial, the rank."""
-        return len(self.trial.relaxations), self.trial.number, self.rank
+        """What it is tested by: how much was relaxed, the step, the rank."""
+        return len(self.step.relaxations), self.step.number, self.rank
 
     @property
     def fits(self) -> int:
@@ -141,10 +141,10 @@ class Candidate:
         return -max(self.score, Score.KNOWN), -self.fits, self.word.simplicity, self.order
 
 
-def left_most(trial: Trial, plan: Plan, groups: Sequence[Held]) -> bool:
-    """The groups that a trial left out of a plan, and that do not hold either, have most of its marks. `groups` has what `check` says of each."""
+def left_most(step: Step, plan: Plan, groups: Sequence[Held]) -> bool:
+    """The groups that a step left out of a plan, and that do not hold either, have most of its marks. `groups` has what `check` says of each."""
     left = 0
     for group, held in zip(plan.groups, groups):
-        if group.place in trial.out and (held.origin is None or held.doubtful):
+        if group.place in step.out and (held.origin is None or held.doubtful):
             left += len(group.marks)
     return 2 * left > len(plan.marks())

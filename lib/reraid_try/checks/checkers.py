@@ -19,7 +19,7 @@ from .verdicts import MANY_FILES, Finding, Score, Verdict
 from .volumes import Region, Room, Volume
 
 BLKID = "blkid"
-# A checker may take so many times as long as a trial, and files are looked for so many times as long.
+# A checker may take so many times as long as a step, and files are looked for so many times as long.
 CHECKED_TIMES, FILES_TIMES = 10, 2
 # What a fault says little of, which a checker found in a volume whose end was not written.
 CUT = ", over only its first bytes, for lack of space; this tells nothing about the rest"
@@ -27,7 +27,7 @@ CUT = ", over only its first bytes, for lack of space; this tells nothing about 
 THIN = "thin volumes, which only LVM2 reads, so intact files decide:"
 # What is said where there is no checker of a file system, and where one found only that it was not unmounted.
 UNCHECKED, MINOR = "no checker, so intact files decide", ", only that it was not unmounted, so intact files decide"
-# Long files are read at the borders of chunks for this part of the time of a trial.
+# Long files are read at the borders of chunks for this part of the time of a step.
 JOINTS_PART = 4
 # A volume may lack so much of a region at its end.
 MOST_LACKING = 4

@@ -10,14 +10,14 @@ from .candidates import Candidate
 from .joints import duel
 from .verdicts import Score
 
-# So many sets of a trial are looked at without images, those with the fewest unsound rows.
+# So many sets of a step are looked at without images, those with the fewest unsound rows.
 MOST_SETS = 3
 # With so many images to spare parity tells which are bad.
 TELLING = 2
 
 
 def doubted(tested: Sequence[Candidate], mapped: bool) -> list[Candidate]:
-    """The candidates of a trial that have unsound rows, but not most, and can lose an image: those that are whole, where one is; none then where maps
+    """The candidates of a step that have unsound rows, but not most, and can lose an image: those that are whole, where one is; none then where maps
     say what could not be read."""
     found = [it for it in tested if it.unsound and not it.mostly_unsound and it.listed and len(it.word.offsets) == 1 and it.word.spare > 0]
     if any(it.score is Score.WHOLE for it in tested):
@@ -45,8 +45,8 @@ def is_better(candidate: Candidate, whole: Candidate) -> bool:
 
 def lesser(candidate: Candidate, images: frozenset[int]) -> Candidate:
     """A candidate without these images, by their places in its hunt."""
-    listed, trial, hunt = (candidate.listed or candidate.word).without(images), candidate.trial, candidate.hunt
+    listed, step, hunt = (candidate.listed or candidate.word).without(images), candidate.step, candidate.hunt
     name = f"without {' and '.join(f'image {number}' for number in sorted(hunt.evidence.images[image].number for image in images))}"
-    shape = dataclasses.replace(trial.shape, missing=listed.lost)
-    trial = dataclasses.replace(trial, shape=shape, relaxations=(*trial.relaxations, relaxations.told(name, RelaxationKind.LEFT_OUT)))
-    return Candidate(simplest(hunt.word(listed.text)), candidate.rank, trial, hunt, listed=listed, whole=candidate)
+    shape = dataclasses.replace(step.shape, missing=listed.lost)
+    step = dataclasses.replace(step, shape=shape, relaxations=(*step.relaxations, relaxations.told(name, RelaxationKind.LEFT_OUT)))
+    return Candidate(simplest(hunt.word(listed.text)), candidate.rank, step, hunt, listed=listed, whole=candidate)

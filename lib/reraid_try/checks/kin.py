@@ -107,10 +107,10 @@ def rivalled(it: Candidate, other: Candidate, same: Mapping[int, int]) -> str:
     if rows:
         return f"what is found in it begins after its first {rows} stripes, at the start of the volume of another layout"
     if other.whole is it and is_sounder(other, it):
-        without = other.trial.relaxed[-1]
+        without = other.step.relaxed[-1]
         return f"{counted(it.unsound or 0, 'inconsistent row')}, and none {without}, which is old, damaged or from another array there"
     if other.whole is it and other.score >= it.score and other.found.files.whole > it.found.files.whole:
-        return f"{counted(it.unsound or 0, 'inconsistent row')}, and fewer files are intact than {other.trial.relaxed[-1]}"
+        return f"{counted(it.unsound or 0, 'inconsistent row')}, and fewer files are intact than {other.step.relaxed[-1]}"
     if rivals.are_highest(it, other) and (told := rivals.beaten(it, other)) and (contradict(it, other, same) or lesser(it, other, same)):
         return told
     broken = it.score is Score.CHECKED and it.found.files.found > 0 and not it.found.files.longest_of_all and other.found.files.longest_of_all > 0

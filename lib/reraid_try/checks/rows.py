@@ -163,7 +163,7 @@ class Rows:
 
     def whole(self, candidate: Candidate) -> str:
         """In which rows of the whole window parity holds for a candidate, whatever was relaxed; nothing for RAID 10, which has none."""
-        word, request = candidate.listed, candidate.trial.request
+        word, request = candidate.listed, candidate.step.request
         if word is None or request is None or candidate.word.is_mirrored:
             return ""
         if word.spare < 1:
@@ -182,7 +182,7 @@ class Rows:
     def old(self, candidate: Candidate, stale: Iterable[Image] = ()) -> list[Old]:
         """The images in no slot of a candidate that belong into one that is empty, and are old or damaged; `stale` are images that ties name as old,
         which the hunt has not."""
-        word, request = candidate.listed, candidate.trial.request
+        word, request = candidate.listed, candidate.step.request
         if word is None or request is None or candidate.word.is_mirrored or not word.lost or len(word.offsets) > 1:
             return []
         images, found = self.hunt.evidence.images, list[Old]()

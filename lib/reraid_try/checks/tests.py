@@ -32,7 +32,7 @@ MOST_UNTOLD, MOST_UNKNOWN = 1024, 256
 MOST_COUNTED = 256
 # How far into a volume a file system may begin to be looked for before the whole is read, in sectors.
 FARTHEST = 131072
-# The writing of a volume may take so many times as long as a trial.
+# The writing of a volume may take so many times as long as a step.
 WRITTEN_TIMES = 20
 # So many images are left out of a set at most.
 MOST_OUT = 2
@@ -91,18 +91,18 @@ class Tests:
         already is not asked again."""
         if candidate.unsound is not None or not rows and candidate.groups:
             return
-        plan = candidate.hunt.checked_by(candidate.trial)
+        plan = candidate.hunt.checked_by(candidate.step)
         if plan is None or candidate.listed is None:
             return
         told = candidate.hunt.program.check(candidate.listed.text, plan if rows else plan.having(window=1))
         if told:
             candidate.groups = told.groups
             candidate.unsound = told.unsound if rows else None
-            candidate.left_most = left_most(candidate.trial, plan, told.groups)
+            candidate.left_most = left_most(candidate.step, plan, told.groups)
 
     def unsound_rows(self, candidate: Candidate, word: Word) -> int:
         """How many rows are unsound of a set like a candidate's."""
-        plan = candidate.hunt.checked_by(candidate.trial)
+        plan = candidate.hunt.checked_by(candidate.step)
         told = candidate.hunt.program.check(word.text, plan) if plan else None
         return told.unsound if told else candidate.unsound or 0
 
@@ -210,7 +210,7 @@ class Tests:
     def test(self, found: list[Candidate]) -> list[Candidate]:
         """Tests one of each class: of many, those first that begin with something known, and the others where none of these is clean or encrypted.
         Doubtful sets, and too many, are put off."""
-        if len(found) > MOST_UNTOLD and not found[0].trial.shape.parity and not self.late:
+        if len(found) > MOST_UNTOLD and not found[0].step.shape.parity and not self.late:
             self.report.say("put off", f"  {len(found)} layouts deferred: too many, since no parity is left to test", sets=len(found))
             self.put_off += found
             return []
@@ -244,12 +244,12 @@ class Tests:
 
     def without_doubtful(self, found: list[Candidate]) -> list[Candidate]:
         """The sets of which more speaks for them than against them; the others are kept for the end."""
-        if not found or not found[0].trial.lenient or self.late:
+        if not found or not found[0].step.lenient or self.late:
             return found
         # At level 5 parity is the same in whatever order the images stand.
         firsts: dict[Hashable, Candidate] = {}
         alike = [firsts.setdefault((it.word.offsets, frozenset(it.word.slots)) if it.word.level == "5" else it.word, it) for it in found]
-        self.side_by_side(lambda it: self.ask(it, it.trial.has_bad_rows), firsts.values(), "counts the inconsistent rows of the candidates")
+        self.side_by_side(lambda it: self.ask(it, it.step.has_bad_rows), firsts.values(), "counts the inconsistent rows of the candidates")
         self.side_by_side(lambda it: self.ask(it, False), found, "counts the matching landmarks of the candidates")
         for it, first in zip(found, alike):
             it.doubted = it.doubted or first.mostly_unsound

@@ -20,7 +20,7 @@ from .ties import MOST_ROWS, Known, Ties
 
 # So many ways to choose the offsets are tried, for each part of the images so many places behind the first one, and so many beginnings.
 MOST_WAYS, MOST_PLACES, MOST_BEGINNINGS = 32, 8, 3
-# The ways are asked about for this part of the time of a trial at most. Rows are looked at so many times, each time closer to each other.
+# The ways are asked about for this part of the time of a step at most. Rows are looked at so many times, each time closer to each other.
 PART, PASSES = 6, 3
 # Where partitions and the data of md begin, and the first extents of LVM2: multiples of so many sectors, from a first one on.
 GRIDS = ((0, 2048), (2048, 8192))

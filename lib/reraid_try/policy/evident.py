@@ -31,8 +31,8 @@ from .relaxations import RelaxationKind
 from .hunt import Hunt
 from .plain import Aim, Span, Unsound
 from .shapes import Shape
-from .steps import Step, delayed, of_kinds, with_bad_rows
-from .trials import Trial
+from .stages import Stage, delayed, of_kinds, with_bad_rows
+from .steps import Step
 
 if TYPE_CHECKING:
     from .search import Search
@@ -59,7 +59,7 @@ class Part:
 
 def is_closed(it: Candidate) -> bool:
     """Parity speaks for a candidate and it is encrypted, so that nothing more is to be seen in it."""
-    return it.trial.shape.parity and bool(it.found.encrypted)
+    return it.step.shape.parity and bool(it.found.encrypted)
 
 
 def enough(it: Candidate) -> bool:
@@ -68,11 +68,11 @@ def enough(it: Candidate) -> bool:
 
 
 class Evident:
-    """The trials that evidence gives a reason for, of a search."""
+    """The steps that evidence gives a reason for, of a search."""
 
     def __init__(self, search: "Search") -> None:
         self.search = search
-        # A trial of these takes no longer than a question of others.
+        # A step of these takes no longer than a question of others.
         seconds = search.options.question_seconds
         self.options = dataclasses.replace(search.options, seconds=seconds, question=seconds)
         self.searched: list[Part] = []
@@ -105,7 +105,7 @@ class Evident:
         return [gathered.within(image, span.first, span.end) for image in images] if span.partition else images
 
     def of_part(self, part: Part) -> bool:
-        """The trials of a part; what comes later of images of which a candidate says enough is left. Of aims that are alike but for where the data
+        """The steps of a part; what comes later of images of which a candidate says enough is left. Of aims that are alike but for where the data
         begin all are tried before anything is relaxed. It says whether there is such a candidate."""
         solved: set[int] = set()
         for _, alike in itertools.groupby(self.aims(part), key=lambda aim: bool(aim.moved)):
@@ -239,7 +239,7 @@ class Evident:
         return unlike.look(asked, images, shown, end, named)
 
     def seek(self, aim: Aim, later: list[Later]) -> bool:
-        """The trials of an aim; where it is one of several that are alike but for where the data begin, those with something relaxed are left for
+        """The steps of an aim; where it is one of several that are alike but for where the data begin, those with something relaxed are left for
         later. It says whether a candidate says enough."""
         search = self.search
         search.report.say("reason", f"trying first: {aim.why}", images=list(aim.images), first=aim.span.first, end=aim.span.end, why=aim.why)
@@ -272,14 +272,14 @@ class Evident:
         word, shape = read_word(text).over(aim.images), aim.shapes[0]
         listing = Listing((Ranked(0, word.text),), 1, True, "named by metadata")
         if word.copying:
-            trial = Trial(shape, copied=Copied((word.copying,), shape.members, shape.missing))
+            step = Step(shape, copied=Copied((word.copying,), shape.members, shape.missing))
         else:
-            trial = Trial(shape, request=hunt.asking.request(shape))
-        told = self.search.say_trial(hunt, trial, listing)
+            step = Step(shape, request=hunt.asking.request(shape))
+        told = self.search.say_step(hunt, step, listing)
         self.search.take(hunt, told, listing.sets, lambda it: (None if word.copying else word, hunt.word(it.text)))
 
     def with_all(self, hunt: Hunt, aim: Aim, unsound: Unsound, before: int) -> bool:
-        """The trials of an aim with all images of the family in slots, where rows may be bad, unless such a candidate has a sign already: what leaves
+        """The steps of an aim with all images of the family in slots, where rows may be bad, unless such a candidate has a sign already: what leaves
         some out may be whole too, and does not say that these are old. It says whether there is such a candidate."""
         if self.has_all(unsound, before):
             return True
@@ -290,8 +290,8 @@ class Evident:
             hunt = Hunt(self.options, search.commands, self.within(unsound.images, aim.span), search.say_late, start=aim.span.first,
                         asked=dict(aim.asked), tied=True, shared=search.surveys)
         hunt.program.seconds = search.options.seconds
-        steps = (with_bad_rows(count, unsound.shape) for count in range(1, MOST_RELAXED + 1))
-        found = any(search.take_step(step, hunt) or self.has_all(unsound, before) for step in steps)
+        stages = (with_bad_rows(count, unsound.shape) for count in range(1, MOST_RELAXED + 1))
+        found = any(search.take_stage(stage, hunt) or self.has_all(unsound, before) for stage in stages)
         search.why = why
         return found
 
@@ -300,7 +300,7 @@ class Evident:
         return any(it.score >= Score.CHECKED and set(unsound.images) <= set(it.word.images) for it in self.since(before))
 
     def relax(self, it: Later) -> bool:
-        """The trials of an aim with something relaxed, which were left for later; it says whether a candidate says enough."""
+        """The steps of an aim with something relaxed, which were left for later; it says whether a candidate says enough."""
         before, self.search.why = len(self.search.tested), it.aim.why
         self.relaxed(it.hunt, it.aim, before)
         self.search.why = ""
@@ -385,8 +385,8 @@ class Evident:
         # What a fresh NTFS numbers 0 is no reason to call its group one that does not hold.
         request = dataclasses.replace(hunt.asking.request(shape), records=True)
         chosen = (bare, relaxations.delays()) if delay > 1 else (bare,)
-        trial = self.search.say_trial(hunt, Trial(shape, chosen, relaxations.relaxed(request, chosen[1:])), listing)
-        return self.search.take(hunt, trial, listing.sets, lambda it: (read_word(it.text), hunt.word(it.text)))
+        step = self.search.say_step(hunt, Step(shape, chosen, relaxations.relaxed(request, chosen[1:])), listing)
+        return self.search.take(hunt, step, listing.sets, lambda it: (read_word(it.text), hunt.word(it.text)))
 
     def read_off(self, hunt: Hunt, aim: Aim, before: int) -> bool:
         """The set that landmarks by the thousand propose; it says whether the search is at its end, or a candidate is content."""
@@ -414,7 +414,7 @@ class Evident:
         return sorted(row for row in rows if aim.begin is None or row <= aim.begin)
 
     def relaxed(self, hunt: Hunt, aim: Aim, before: int) -> None:
-        """The trials of the shapes of an aim with ever more relaxed, until a candidate is whole, encrypted or content; of the shapes alone of which
+        """The steps of the shapes of an aim with ever more relaxed, until a candidate is whole, encrypted or content; of the shapes alone of which
         one is content already, where there are such. `before` is how many candidates were tested before those of the aim."""
         if self.search.is_hopeless(self.told):
             return
@@ -422,18 +422,18 @@ class Evident:
         content = tuple(shape for shape in aim.shapes if self.is_content(before, shape))
         aim = dataclasses.replace(aim, shapes=content or aim.shapes)
         for count in range(1, MOST_RELAXED + 1):
-            if self.take_step(aim, count, hunt, before) or self.is_content(before):
+            if self.take_stage(aim, count, hunt, before) or self.is_content(before):
                 return
 
     def plainly(self, hunt: Hunt, aim: Aim, before: int) -> bool:
-        """The trials with nothing relaxed; it says whether the search is at its end. What is listed comes before what zeros allow, but where it is
+        """The steps with nothing relaxed; it says whether the search is at its end. What is listed comes before what zeros allow, but where it is
         known to say nothing: P is the same in any order of the disks, so without landmarks it is Q alone that tells one. Where zeros may tell the
-        order too a listing is asked for again, in the whole time of a trial, only if they do not."""
+        order too a listing is asked for again, in the whole time of a step, only if they do not."""
         by_q = any(LEVEL_6 in shape.telling for shape in aim.shapes)
         silent = not by_q and not hunt.plan.groups
         if silent and self.by_places(hunt, aim):
             return True
-        # What the images are tied for is worth the whole time of a trial.
+        # What the images are tied for is worth the whole time of a step.
         hunt.program.seconds = self.search.options.seconds if aim.tied and by_q else self.options.seconds
         if self.plain_steps(aim, hunt, before):
             return True
@@ -442,27 +442,27 @@ class Evident:
         if aim.tied and hunt.cut_short and not self.is_content(before):
             hunt.program.seconds = self.search.options.seconds
             hunt.ask_again()
-            if self.take_step(aim, 0, hunt, before):
+            if self.take_stage(aim, 0, hunt, before):
                 return True
         return not hunt.plan.groups and any(self.search.attempt_bare(hunt, shape) for shape in aim.shapes if not shape.parity)
 
     def plain_steps(self, aim: Aim, hunt: Hunt, before: int) -> bool:
-        """The trials of the shapes of an aim with nothing relaxed. Where parity tells nothing at a shape, and no candidate is content, what one kind
+        """The steps of the shapes of an aim with nothing relaxed. Where parity tells nothing at a shape, and no candidate is content, what one kind
         of group needs, and parity that stays for several rows, come before the next shape, with another disk lost, of which more sets pass by few
         landmarks. Parity that stays is asked for too where a candidate of the shape is content, since of metadata in the first rows a checker is
         content without. It says whether nothing more is to be seen."""
         for shape, following in itertools.zip_longest(aim.shapes, aim.shapes[1:]):
-            if self.search.take_step(Step((shape,), 0), hunt):
+            if self.search.take_stage(Stage((shape,), 0), hunt):
                 return True
             early = following is not None and not self.is_content(before)
             more = [of_kinds(shape)] * early + [delayed(shape)] * (early or self.is_content(before, shape))
-            if not shape.parity and any(self.search.take_step(step, hunt) for step in more):
+            if not shape.parity and any(self.search.take_stage(stage, hunt) for stage in more):
                 return True
         return self.is_closed(before)
 
-    def take_step(self, aim: Aim, count: int, hunt: Hunt, before: int) -> bool:
-        """The trials of the shapes of an aim with so many things relaxed; it says whether nothing more is to be seen."""
-        return self.search.take_step(Step(aim.shapes, count), hunt) or self.is_closed(before)
+    def take_stage(self, aim: Aim, count: int, hunt: Hunt, before: int) -> bool:
+        """The steps of the shapes of an aim with so many things relaxed; it says whether nothing more is to be seen."""
+        return self.search.take_stage(Stage(aim.shapes, count), hunt) or self.is_closed(before)
 
     def is_closed(self, before: int) -> bool:
         """A candidate that was tested since is encrypted, and parity speaks for it."""
@@ -470,7 +470,7 @@ class Evident:
 
     def is_content(self, before: int, shape: Shape | None = None) -> bool:
         """A candidate that was tested since has a sign; one of a shape, where it is named."""
-        return any(it.score >= Score.CHECKED and (shape is None or it.trial.shape == shape) for it in self.since(before))
+        return any(it.score >= Score.CHECKED and (shape is None or it.step.shape == shape) for it in self.since(before))
 
     def since(self, before: int) -> list[Candidate]:
         """The candidates that were tested behind so many."""

@@ -1,4 +1,4 @@
-"""What is tried first: few trials, each for a reason that the images themselves give, with nothing relaxed."""
+"""What is tried first: few steps, each for a reason that the images themselves give, with nothing relaxed."""
 
 import dataclasses
 from collections.abc import Iterable, Iterator, Sequence
@@ -50,7 +50,7 @@ class Unsound:
 @dataclasses.dataclass(frozen=True)
 class Aim:
     """Images, by their numbers, that are searched as an array, in a part of each; the shapes that are tried, in order, and why. `asked` are operands
-    that are asked for in each trial, as far as they are known; `copied` says that RAID 10 is tried before them, `tied` that parity ties
+    that are asked for in each step, as far as they are known; `copied` says that RAID 10 is tried before them, `tied` that parity ties
     them; `begin` is a row of the array, so that its data do not begin later, None where none is known; `moved` has the offset of each image, where
     these are known and not the same; `apart` says how far apart the copies lie, where they do not lie side by side; `missing` are the numbers of
     members that may be missing where copies are asked for; `by_thousands` are the shapes at

@@ -15,7 +15,7 @@ from . import relaxations, thousands
 from .relaxations import RelaxationKind
 from .hunt import Hunt
 from .shapes import Shape
-from .trials import Trial
+from .steps import Step
 
 if TYPE_CHECKING:
     from .search import Search
@@ -92,7 +92,7 @@ def line(hunt: Hunt, it: Proposal, plan: Plan) -> str:
 
 
 def attempt(search: "Search", hunt: Hunt, shapes: Sequence[Shape], kinds: Sequence[str]) -> bool:
-    """The trials of the sets that landmarks of these kinds propose; it says whether the search is at its end."""
+    """The steps of the sets that landmarks of these kinds propose; it says whether the search is at its end."""
     try:
         plan = thousands.asked_of(hunt, shapes[0], kinds)
         search.report.bar.show("reads the layout off landmarks")
@@ -105,7 +105,7 @@ def attempt(search: "Search", hunt: Hunt, shapes: Sequence[Shape], kinds: Sequen
 
 
 def asked(search: "Search", hunt: Hunt, query: Query, kinds: Sequence[str]) -> bool:
-    """The trial of a query, if few sets pass; it says whether the search is at its end."""
+    """The step of a query, if few sets pass; it says whether the search is at its end."""
     over = thousands.asked_of(hunt, query.shape, kinds)
     listing = hunt.program.listing(query.plan(over))
     before, search.why = search.why, line(hunt, query.first, over)
@@ -116,7 +116,7 @@ def asked(search: "Search", hunt: Hunt, query: Query, kinds: Sequence[str]) -> b
             return False
         others = [group.place for group in hunt.plan.groups]
         alone = relaxations.told("only the landmarks that it is read off", RelaxationKind.ALONE, others)
-        trial = search.say_trial(hunt, Trial(query.shape, (alone,), hunt.asking.request(query.shape)), listing)
-        return search.take(hunt, trial, listing.sets, lambda it: (read_word(it.text), hunt.word(it.text)))
+        step = search.say_step(hunt, Step(query.shape, (alone,), hunt.asking.request(query.shape)), listing)
+        return search.take(hunt, step, listing.sets, lambda it: (read_word(it.text), hunt.word(it.text)))
     finally:
         search.why = before

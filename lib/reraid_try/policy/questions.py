@@ -50,7 +50,7 @@ class Questions:
 
     @property
     def seconds(self) -> int:
-        """How long a question may take: a part of the time of a trial."""
+        """How long a question may take: a part of the time of a step."""
         return min(self.program.seconds, self.asking.shapes.options.question_seconds)
 
     def first(self, text: str, what: str) -> First:

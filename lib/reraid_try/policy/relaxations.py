@@ -26,7 +26,7 @@ FEW_GROUPS = 2
 
 
 class RelaxationKind(enum.Enum):
-    """What is relaxed. Of a kind one relaxation stands in a trial, but for groups and images, of which each has its number."""
+    """What is relaxed. Of a kind one relaxation stands in a step, but for groups and images, of which each has its number."""
 
     WINDOW = "half the test range"
     END = "the end"

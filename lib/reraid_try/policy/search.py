@@ -1,4 +1,4 @@
-"""The way from the images to the table: looks, surveys, trials, tests, and where it ends."""
+"""The way from the images to the table: looks, surveys, steps, tests, and where it ends."""
 
 import contextlib
 import dataclasses
@@ -38,8 +38,8 @@ from .hunt import Hunt
 from .mirrors import Grouped, Mirrors, groupings, is_striped
 from .plans import FIRST_ROWS
 from .shapes import Shape, Tiers
-from .steps import Step, delayed
-from .trials import Trial
+from .stages import Stage, delayed
+from .steps import Step
 
 # Images of at most so many times what is read first are read wholly where nothing was found.
 SMALL_TIMES = 4
@@ -51,8 +51,8 @@ MOST_THRICE = 2
 
 class Search:
     """One run: what is seen, what is tried, and the candidates. `hunt` is that over all images, `hunts` are all that were begun, `shapes_tried` of
-    which shapes there were trials, `stale` the images that ties name as old, `reshapes` where ties change for good, `said_fills` the lines on texts
-    in images, `why` for what reason the next trials are; `solved` says that a candidate says enough of what evidence gave a reason for, so that there
+    which shapes there were steps, `stale` the images that ties name as old, `reshapes` where ties change for good, `said_fills` the lines on texts
+    in images, `why` for what reason the next steps are; `solved` says that a candidate says enough of what evidence gave a reason for, so that there
     is no hunt over all images; `answer` says what the images are if they are no array; `memory` keeps what is found in volumes, where another run may
     go on with it."""
 
@@ -267,59 +267,60 @@ class Search:
             self.report.say("hint", hint.line(), what=hint.what.value, value=hint.value, source=hint.source.value, why=hint.why)
 
     def try_all(self) -> None:
-        """All trials, in order, until the volume of a candidate says enough for itself."""
-        if not self.first_trials() and not self.further_trials() and self.best() < Score.KNOWN:
+        """All steps, in order, until the volume of a candidate says enough for itself."""
+        if not self.first_steps() and not self.further_steps() and self.best() < Score.KNOWN:
             tested = {it.word.text for it in self.tested}
             self.tests.put_off = list({it.word.text: it for it in reversed(self.tests.put_off) if it.word.text not in tested}.values())
             self.keep(self.looked_at(self.tests.put_off, self.tests.test_late))
         if self.hunt.passed_over:
             self.commands.note(f"# skipped {counted(self.hunt.passed_over, 'step')}: landmarks by themselves, or parity by itself, allow no layout")
 
-    def first_trials(self) -> bool:
+    def first_steps(self) -> bool:
         """What is plain, once more where it ran out of its time, and with parity that stays for several rows; then what the hints say, with up to
         three things relaxed where parity tells something, what parity tells of with up to two that are soon told, and the rest with up to one. It
         says whether the search is at its end."""
         tiers = self.hunt.shapes.tiers()
         hinted, told = tiers.hinted, tiers.told
-        if self.before_damage(hinted + told) or self.plain_trials(tiers):
+        if self.before_damage(hinted + told) or self.plain_steps(tiers):
             return True
-        if self.best() < Score.CHECKED and (self.plain_again(tiers) or self.delayed_trials(tiers)):
+        if self.best() < Score.CHECKED and (self.plain_again(tiers) or self.delayed_steps(tiers)):
             return True
         telling = tuple(it for it in hinted if it.parity)
-        steps = [Step(hinted, 1), Step(hinted, 2), Step(telling, 3), Step(told, 1, quick=True), Step(told, 2, quick=True)]
-        for step in steps:
-            if self.take_step(step) or self.best() >= Score.CHECKED:
+        stages = [Stage(hinted, 1), Stage(hinted, 2), Stage(telling, 3), Stage(told, 1, quick=True), Stage(told, 2, quick=True)]
+        for stage in stages:
+            if self.take_stage(stage) or self.best() >= Score.CHECKED:
                 return True
         if self.best() < Score.KNOWN:
             self.diagnose(Diagnosis.show_on_the_way)
         if self.options.wants("10") and not self.lost_early and self.near_mirrors(self.hunt, 1):
             return True
-        return any(self.take_step(step) or self.best() >= Score.CHECKED for step in (Step(tiers.rest, 0), Step(told + tiers.rest, 1)))
+        return any(self.take_stage(stage) or self.best() >= Score.CHECKED for stage in (Stage(tiers.rest, 0), Stage(told + tiers.rest, 1)))
 
     @property
     def lost_early(self) -> bool:
         """RAID 10 with a disk lost is looked for early: the images are of an odd number."""
         return len(self.images) % 2 == 1
 
-    def plain_trials(self, tiers: Tiers) -> bool:
+    def plain_steps(self, tiers: Tiers) -> bool:
         """Nothing relaxed: what the hints say, what parity tells of, the rest where none of these is content, and RAID 10, which comes first where
-        images are the same. Each trial takes no longer than a question. It says whether the search is at its end."""
+        images are the same. Each step takes no longer than a question. It says whether the search is at its end."""
         exact = tuple(shape for shape in self.hunt.shapes.exact() if shape in tiers.told)
         alike = any(image.like is not None for image in self.images)
         with self.in_short():
-            if alike and self.plain_mirrors() or any(map(self.take_step, [Step(tiers.hinted, 0), Step(exact, 0), Step(tiers.told, 0, quick=True)])):
+            first = [Stage(tiers.hinted, 0), Stage(exact, 0), Stage(tiers.told, 0, quick=True)]
+            if alike and self.plain_mirrors() or any(map(self.take_stage, first)):
                 return True
-            return self.best() < Score.CHECKED and (self.take_step(Step(tiers.rest, 0)) or not alike and self.plain_mirrors())
+            return self.best() < Score.CHECKED and (self.take_stage(Stage(tiers.rest, 0)) or not alike and self.plain_mirrors())
 
-    def delayed_trials(self, tiers: Tiers) -> bool:
-        """Parity that stays for several rows, nothing else relaxed, in the same order, until a candidate is content; each trial takes no longer than
+    def delayed_steps(self, tiers: Tiers) -> bool:
+        """Parity that stays for several rows, nothing else relaxed, in the same order, until a candidate is content; each step takes no longer than
         a question. It says whether the search is at its end."""
         with self.in_short():
-            return any(self.best() < Score.CHECKED and self.take_step(delayed(shape)) for shape in tiers.all)
+            return any(self.best() < Score.CHECKED and self.take_stage(delayed(shape)) for shape in tiers.all)
 
     @contextlib.contextmanager
     def in_short(self) -> Iterator[None]:
-        """Meanwhile a trial takes no longer than a question."""
+        """Meanwhile a step takes no longer than a question."""
         seconds, self.hunt.program.seconds = self.hunt.program.seconds, self.options.question_seconds
         try:
             yield
@@ -327,10 +328,10 @@ class Search:
             self.hunt.program.seconds = seconds
 
     def plain_again(self, tiers: Tiers) -> bool:
-        """What hints say and what parity tells of, nothing relaxed, where its time was up, in the whole time of a trial; it says whether the search
+        """What hints say and what parity tells of, nothing relaxed, where its time was up, in the whole time of a step; it says whether the search
         is at its end."""
         self.hunt.ask_again()
-        return any(map(self.take_step, [Step(tiers.hinted, 0), Step(tiers.told, 0, quick=True)]))
+        return any(map(self.take_stage, [Stage(tiers.hinted, 0), Stage(tiers.told, 0, quick=True)]))
 
     def plain_mirrors(self) -> bool:
         """RAID 10 with two copies side by side, of an odd number of images with one disk lost too; it says whether the search is at its end."""
@@ -352,12 +353,12 @@ class Search:
                     return True
         return False
 
-    def further_trials(self) -> bool:
+    def further_steps(self) -> bool:
         """With two and three things relaxed: what parity tells of first, and then all else with two."""
         tiers = self.hunt.shapes.tiers()
-        steps = [Step(tiers.told, 2), Step(tiers.told, 3), Step(tiers.rest, 2), Step(tiers.all, 2, every=True),
-                 Step(tiers.all[:MOST_THRICE], 3, every=True)]
-        return any(self.best() >= Score.KNOWN or self.take_step(step) for step in steps)
+        stages = [Stage(tiers.told, 2), Stage(tiers.told, 3), Stage(tiers.rest, 2), Stage(tiers.all, 2, every=True),
+                  Stage(tiers.all[:MOST_THRICE], 3, every=True)]
+        return any(self.best() >= Score.KNOWN or self.take_stage(stage) for stage in stages)
 
     def without_landmarks(self) -> None:
         """What is left where nothing was found: all sets that parity allows; where parity tells nothing, without landmarks alone."""
@@ -369,23 +370,23 @@ class Search:
         """How much speaks for the best candidate so far."""
         return max((it.score for it in self.tested), default=Score.NOTHING)
 
-    def take_step(self, step: Step, hunt: Hunt | None = None) -> bool:
-        """The trials of a step; it says whether the search is at its end."""
+    def take_stage(self, stage: Stage, hunt: Hunt | None = None) -> bool:
+        """The steps of a stage; it says whether the search is at its end."""
         over = hunt or self.hunt
-        return any(self.attempt(over, shape, chosen, request) for shape in step.shapes
-                   for chosen, request in over.ways(shape, step))
+        return any(self.attempt(over, shape, chosen, request) for shape in stage.shapes
+                   for chosen, request in over.ways(shape, stage))
 
     def attempt_bare(self, hunt: Hunt, shape: Shape) -> bool:
-        """The trial with all groups left out."""
+        """The step with all groups left out."""
         return self.attempt(hunt, shape, (relaxations.bare(hunt.plan),), hunt.asking.bare(shape), last=True)
 
     def attempt(self, hunt: Hunt, shape: Shape, chosen: tuple[Relaxation, ...], request: Request, last: bool = False,
                 tested_by: Request | None = None) -> bool:
-        """One trial; it says whether a candidate is clean and whole. `tested_by` is the request by which its sets are tested, where that is
+        """One step; it says whether a candidate is clean and whole. `tested_by` is the request by which its sets are tested, where that is
         another."""
         self.why_on()
-        trial = Trial(shape, chosen, request)
-        self.report.doing = f"{trial.line()}: "
+        step = Step(shape, chosen, request)
+        self.report.doing = f"{step.line()}: "
         self.report.bar.show(self.report.doing)
         try:
             plan = hunt.to_list(shape, request, last)
@@ -393,7 +394,7 @@ class Search:
                 return False
             if not last and not hunt.may_list(plan, shape):
                 if self.options.show:
-                    self.report.say("passed over", f"skipped: {trial.line()}", loosened=trial.relaxed, shape=shape.line())
+                    self.report.say("passed over", f"skipped: {step.line()}", loosened=step.relaxed, shape=shape.line())
                 return False
             listing = hunt.listing(shape, request, plan)
         except Refused as error:
@@ -403,7 +404,7 @@ class Search:
             named = f"badrows {listing.bad_rows}"
             chosen = tuple(dataclasses.replace(it, name=named) if it.relaxes is RelaxationKind.BAD_ROWS else it for it in chosen)
             request = request.having(badrows=listing.bad_rows)
-        told = self.say_trial(hunt, Trial(shape, chosen, request), listing)
+        told = self.say_step(hunt, Step(shape, chosen, request), listing)
         told = dataclasses.replace(told, request=tested_by or request)
         return self.take(hunt, told, listing.sets, lambda it: (read_word(it.text), hunt.word(it.text)))
 
@@ -421,41 +422,41 @@ class Search:
         self.report.say("late", f"  timed out after {seconds} s: it is not known whether {what} a layout. The search assumes so, and skips no step "
                         "for it (--time allows more)", what=what, seconds=seconds)
 
-    def say_trial(self, hunt: Hunt, trial: Trial, listing: Listing) -> Trial:
-        """A trial with its number, after it is printed with what it listed."""
+    def say_step(self, hunt: Hunt, step: Step, listing: Listing) -> Step:
+        """A step with its number, after it is printed with what it listed."""
         self.number, self.was_late = self.number + 1, self.was_late or not listing.whole
-        unread = hunt.asking.unread_relaxation(trial.shape, trial.request)
-        trial = dataclasses.replace(trial, number=self.number, relaxations=(*trial.relaxations, *unread))
-        self.report.say("trial", f"step {self.number}: {trial.line()}: {listing.line()}", number=self.number, shape=trial.shape.line(),
-                        loosened=trial.relaxed, listed=len(listing.sets), total=listing.total, note=listing.note, reason=self.why)
-        self.shapes_tried.add(trial.shape.line())
-        return trial
+        unread = hunt.asking.unread_relaxation(step.shape, step.request)
+        step = dataclasses.replace(step, number=self.number, relaxations=(*step.relaxations, *unread))
+        self.report.say("trial", f"step {self.number}: {step.line()}: {listing.line()}", number=self.number, shape=step.shape.line(),
+                        loosened=step.relaxed, listed=len(listing.sets), total=listing.total, note=listing.note, reason=self.why)
+        self.shapes_tried.add(step.shape.line())
+        return step
 
-    def take(self, hunt: Hunt, trial: Trial, sets: Iterable[Ranked], words_of: Callable[[Ranked], tuple[Word | None, Word]]) -> bool:
-        """Tests the new sets of a trial, of each its word in the hunt and among all images; it says whether one of them is clean and whole."""
+    def take(self, hunt: Hunt, step: Step, sets: Iterable[Ranked], words_of: Callable[[Ranked], tuple[Word | None, Word]]) -> bool:
+        """Tests the new sets of a step, of each its word in the hunt and among all images; it says whether one of them is clean and whole."""
         fresh: dict[str, Candidate] = {}
         for it in sets:
             listed, among_all = words_of(it)
             word = simplest(among_all)
             if word.text not in self.known:
                 self.known.add(word.text)
-                fresh[word.text] = Candidate(word, it.rank, trial, hunt, listed=listed)
+                fresh[word.text] = Candidate(word, it.rank, step, hunt, listed=listed)
             if word != among_all and word.text in fresh:
                 fresh[word.text].alike.append(among_all.text)
         if not fresh:
             return False
         found = list(fresh.values())
         tested = self.looked_at(found, lambda: self.tests.test(found))
-        self.known -= self.left_of(trial, found)
-        telling = hunt.evidence.pairs is not None or not trial.is_bare
-        whole = self.keep([it for it in tested if telling or it.found.findings or it.word.level in trial.shape.telling.split(",")])
+        self.known -= self.left_of(step, found)
+        telling = hunt.evidence.pairs is not None or not step.is_bare
+        whole = self.keep([it for it in tested if telling or it.found.findings or it.word.level in step.shape.telling.split(",")])
         return self.keep(self.tests.without_damaged(tested)) or whole
 
-    def left_of(self, trial: Trial, found: Sequence[Candidate]) -> set[str]:
-        """Return the sets of a trial that were not looked at and may be listed again: those of too many. What was put off without landmarks may be
+    def left_of(self, step: Step, found: Sequence[Candidate]) -> set[str]:
+        """Return the sets of a step that were not looked at and may be listed again: those of too many. What was put off without landmarks may be
         listed with them yet, and then it is known where its volume is to be looked at."""
         same = {text for it in found if it.verdict for text in it.alike}
-        kept = set() if trial.is_bare else {it.word.text for it in self.tests.put_off}
+        kept = set() if step.is_bare else {it.word.text for it in self.tests.put_off}
         return {it.word.text for it in found if it.verdict is None} - kept - same
 
     def looked_at(self, found: list[Candidate], test: Callable[[], list[Candidate]]) -> list[Candidate]:
@@ -490,9 +491,9 @@ class Search:
         except Refused as error:
             self.say_refused(error)
             return False
-        trial = self.say_trial(hunt, Trial(Shape("10", asked.members, asked.missing), copied=asked), listing)
+        step = self.say_step(hunt, Step(Shape("10", asked.members, asked.missing), copied=asked), listing)
         striped, others = ([it for it in listing.sets if is_striped(it) == wanted] for wanted in (True, False))
-        whole = self.take(hunt, trial, others, lambda it: (None, hunt.word(it.text)))
+        whole = self.take(hunt, step, others, lambda it: (None, hunt.word(it.text)))
         return any([whole, *(self.grouped(hunt, grouped) for grouped in groupings(striped))])
 
     def grouped(self, over: Hunt, grouped: Grouped, counts: Sequence[int] = range(MOST_PAIRED + 1)) -> bool:
@@ -504,6 +505,6 @@ class Search:
         self.report.say("pairs", grouped.line(seen_by), pairs=[list(group) for group in grouped.groups])
         self.say_evidence(hunt)
         shapes = hunt.shapes.tiers().all
-        steps = [Step(shapes, count) for count in counts]
+        stages = [Stage(shapes, count) for count in counts]
         bare = bool(shapes) and MOST_PAIRED in counts
-        return any(self.take_step(step, hunt) for step in steps) or bare and self.attempt_bare(hunt, shapes[0])
+        return any(self.take_stage(stage, hunt) for stage in stages) or bare and self.attempt_bare(hunt, shapes[0])

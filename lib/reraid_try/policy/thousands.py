@@ -16,7 +16,7 @@ from . import relaxations
 from .relaxations import RelaxationKind
 from .hunt import Hunt
 from .shapes import Shape
-from .trials import Trial
+from .steps import Step
 
 if TYPE_CHECKING:
     from .search import Search
@@ -114,7 +114,7 @@ def most_of(hunt: Hunt, shapes: Sequence[Shape], group: Group, kinds: Sequence[s
 
 
 def attempt(search: "Search", hunt: Hunt, most: Most) -> bool:
-    """The trial of the sets at which the most of a group lie where they say; it says whether the search is at its end."""
+    """The step of the sets at which the most of a group lie where they say; it says whether the search is at its end."""
     if FEW_FIT * most.fits < len(most.group.marks):
         return False
     listing = hunt.program.listing(most.bounded)
@@ -133,12 +133,12 @@ def taken(search: "Search", hunt: Hunt, most: Most, listing: Listing) -> bool:
     """Tests these sets as others are, by the landmarks that are not asked for here too; it says whether the search is at its end."""
     others = [group.place for group in hunt.plan.groups]
     alone = relaxations.told(f"only the {most.marks.name}s of {most.marks.system}, as many as match", RelaxationKind.ALONE, others)
-    trial = search.say_trial(hunt, Trial(most.shape, (alone,), hunt.asking.request(most.shape)), listing)
-    return search.take(hunt, trial, listing.sets, lambda it: (read_word(it.text), hunt.word(it.text)))
+    step = search.say_step(hunt, Step(most.shape, (alone,), hunt.asking.request(most.shape)), listing)
+    return search.take(hunt, step, listing.sets, lambda it: (read_word(it.text), hunt.word(it.text)))
 
 
 def attempt_all(search: "Search", hunt: Hunt, shapes: Sequence[Shape], kinds: Sequence[str]) -> bool:
-    """The trials by each group of these kinds that has enough landmarks; it says whether the search is at its end."""
+    """The steps by each group of these kinds that has enough landmarks; it says whether the search is at its end."""
     try:
         end = far_end(hunt, shapes)
         groups = groups_of(hunt, shapes[0], kinds, end)

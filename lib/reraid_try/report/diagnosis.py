@@ -16,7 +16,7 @@ from .report import Report
 
 # So many sets are asked of each plan, and shown at the end.
 FEW, SHOWN = 24, 3
-# So many shapes, and groups of each, are looked at, for so many times as long as a trial.
+# So many shapes, and groups of each, are looked at, for so many times as long as a step.
 MOST_SHAPES, MOST_GROUPS, TIMES = 6, 8, 4
 # The next set may have fewer unsound rows than the last one by this part.
 NEXT_FEWER = 64
@@ -116,7 +116,7 @@ class Diagnosis:
             self.lines(rows[:SHOWN])
 
     def show(self, was_late: bool) -> None:
-        """Prints the nearest sets. `was_late` says that some trial or question did not come to its end."""
+        """Prints the nearest sets. `was_late` says that some step or question did not come to its end."""
         self.begin()
         rows = self.by_rows(self.shapes())
         self.begin()

@@ -113,7 +113,7 @@ def encrypted(order: Sequence[Candidate]) -> list[tuple[int, Candidate]]:
 
 def lines_of(number: int, it: Candidate, images: Sequence[Image], said: Sequence[str], typed: Typed) -> list[str]:
     """Return what is printed of a candidate."""
-    relaxed = "relaxed: " + (" and ".join(it.trial.relaxed) or "nothing")
+    relaxed = "relaxed: " + (" and ".join(it.step.relaxed) or "nothing")
     lines = [f"candidate {number}: {said[0]}"]
     lines += [f"  {text}" for text in (*said[1:], relaxed, it.rows, it.alike_said, *it.old, *twins(it.word, images), kin.text(it)) if text]
     lines += [f"  {LOOK}", *("    " + line for line in typed.lines), f"  {END}", *("    " + line for line in typed.ends)]

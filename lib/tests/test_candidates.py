@@ -138,12 +138,12 @@ class OfCandidates(unittest.TestCase):
         out = Step(Shape("5", 3), (relaxations.group_relaxations(plan, True)[0],))
         self.assertEqual((out.out, left_most(out, plan, (Held("xfs"), Held("ntfs")))), (frozenset({0}), False))
 
-    def test_one_sign_less_then(self) -> None:
+    def test_one_plus_less_then(self) -> None:
         self.assertEqual([candidate(verdict=whole(longest=size), left_most=True).score for size in (1 << 20, 50)], [Score.CHECKED, Score.KNOWN])
         self.assertEqual(candidate(verdict=whole(), left_most=True).doubts, ["a landmark group with most landmarks was left out"])
         self.assertEqual(candidate(verdict=whole(False), left_most=True).score, Score.NOTHING)
 
-    def test_files_that_tell_the_order_of_chunks_keep_one_sign(self) -> None:
+    def test_files_that_tell_the_order_of_chunks_keep_one_plus(self) -> None:
         verdict = whole(longest=50)
         verdict.files.long = Wholes(16, 12, 50, joined=10)
         kept = candidate(verdict=verdict, left_most=True)
@@ -152,7 +152,7 @@ class OfCandidates(unittest.TestCase):
         lost = candidate(verdict=verdict, left_most=True)
         self.assertEqual((lost.score, lost.doubts), (Score.KNOWN, ["a landmark group with most landmarks was left out"]))
 
-    def test_no_sign_against_marks_without_a_whole_file(self) -> None:
+    def test_no_rating_against_marks_without_a_whole_file(self) -> None:
         """A checker that reads little of a file system may be content with a wrong order; marks that do not fit and files that are broken are not."""
         broken = whole(longest=0)
         for held, count, score in ((Held("xfs", 0, 12, 6), 1, Score.KNOWN), (Held("xfs", 0, 12, 0), 1, Score.CHECKED),
@@ -184,7 +184,7 @@ class OfCandidates(unittest.TestCase):
             ends.append(it.end)
         self.assertEqual((ends, candidate("far2:8:0:0,1").end), ([77, None], None))
 
-    def test_printed_by_sign_fits_and_members(self) -> None:
+    def test_printed_by_rating_fits_and_members(self) -> None:
         fits = (Held("xfs", 0, 12, 0),)
         order = [candidate(verdict=whole(), number=9), candidate(verdict=whole(longest=50), number=8, groups=fits),
                  candidate(verdict=whole(longest=50), number=1), candidate(verdict=whole(None, 0), number=7, groups=fits),
@@ -243,9 +243,9 @@ class Kin(unittest.TestCase):
         self.assertEqual(self.inside("0:plain:none:8:0:0,1", "0:plain:none:8:7:0,1"), [None, None])
         self.assertEqual(self.inside("near2:8:0:0,1,2", "near2:8:8:0,1,2"), [None, None])
 
-    def signs(self, good: str, *texts: str, start: int = 0) -> list[str]:
-        """Of sets with a content checker what sign each has beside one with long whole files, whose part of the disks begins at some sector."""
-        signs = []
+    def ratings(self, good: str, *texts: str, start: int = 0) -> list[str]:
+        """Of sets with a content checker what rating each has beside one with long whole files, whose part of the disks begins at some sector."""
+        ratings = []
         for text in texts:
             other = hunt_of()
             setattr(other, "evidence", types.SimpleNamespace(start=start, end=9000, filled=1000))
@@ -253,8 +253,8 @@ class Kin(unittest.TestCase):
             order = kin.in_order([content, first], self.images)
             self.assertEqual((order[0], first.score), (first, Score.WHOLE))
             self.assertEqual([it.score for it in kin.in_order(order, self.images)], [it.score for it in order])
-            signs.append(content.score.sign)
-        return signs
+            ratings.append(content.score.rating)
+        return ratings
 
     def found(self, files: int = 0, whole_ones: int = 0) -> Verdict:
         """A volume with a content checker, and so many files, some of them whole."""
@@ -263,47 +263,47 @@ class Kin(unittest.TestCase):
     def test_contradicted_by_one_with_long_whole_files(self) -> None:
         others = ("5:rs:none:128:2048:0,1,2", "5:ls:none:64:2048:0,1,2", "5:ls:none:128:2048:1,0,2", "0:plain:none:128:2048:5,3",
                   "5:ls:none:128:0:0,1,2")
-        self.assertEqual(self.signs(SET, *others), [""] * 5)
+        self.assertEqual(self.ratings(SET, *others), [""] * 5)
         # The same volume, one that begins inside the other, either way, the same with a disk left out, and other images.
         related = (SET, "5:ls:none:128:2048:5,1,2", "5:ls:none:128:2176:2,0,1", "5:ls:none:128:1920:1,2,0", "5:ls:none:128:2048:0,-,2",
                    "0:plain:none:128:2048:3,4")
-        self.assertEqual(self.signs(SET, *related), ["+"] * 6)
-        self.assertEqual(self.signs(SET, *others, start=8000), ["+"] * 5)
+        self.assertEqual(self.ratings(SET, *related), ["+"] * 6)
+        self.assertEqual(self.ratings(SET, *others, start=8000), ["+"] * 5)
         # An image that stands in another slot, and the same with fewer images.
-        self.assertEqual(self.signs("5:ls:none:128:2048:0,1,-,2", "5:ls:none:128:2048:0,1,2,-", "5:ls:none:128:2048:0,-,1,2"), ["", ""])
-        self.assertEqual(self.signs("6:ls:after-q:128:2048:0,1,-,2", "6:ls:after-q:128:2048:0,1,-,-", "6:ls:after-q:128:2048:0,1,3,-"), ["+", "+"])
+        self.assertEqual(self.ratings("5:ls:none:128:2048:0,1,-,2", "5:ls:none:128:2048:0,1,2,-", "5:ls:none:128:2048:0,-,1,2"), ["", ""])
+        self.assertEqual(self.ratings("6:ls:after-q:128:2048:0,1,-,2", "6:ls:after-q:128:2048:0,1,-,-", "6:ls:after-q:128:2048:0,1,3,-"), ["+", "+"])
         doubted = candidate("5:rs:none:128:2048:0,1,2", Verdict([Finding("", "xfs", True, "said", (Piece(0, 1000),))], length=1000))
         kin.in_order([doubted, candidate(SET, whole())], self.images)
         self.assertEqual((doubted.score, doubted.doubts), (Score.KNOWN, ["another layout of these images, which contradicts it, has long intact "
                                                                          "files"]))
 
     def test_contradicted_by_one_with_whole_files(self) -> None:
-        """Of two sets with one sign, that in which files were found and none is whole has none beside one with a whole file."""
+        """Of two sets with one plus, that in which files were found and none is whole has none beside one with a whole file."""
         broken = candidate(SET, self.found(3, 0))
         kin.in_order([broken, candidate("5:la*16:none:128:2048:0,1,2", self.found(3, 1))], self.images)
         self.assertEqual(broken.doubts, ["another layout of these images, which contradicts it, has intact files, and this one has none"])
 
     def test_contradicted_by_one_with_as_much(self) -> None:
-        """Of two sets with one sign that has none beside which the other has as many whole files and as many fits, so that neither has one where they
+        """Of two sets with one plus that has none beside which the other has as many whole files and as many fits, so that neither has one where they
         are as many."""
         right, same = "5:la*16:none:128:2048:0,1,2", "5:ls:none:128:2048:5,1,2"
-        for files, other, text, fits, signs in (((3, 0), (3, 1), right, (), ("", "+")), ((0, 0), (3, 1), right, (), ("", "+")),
-                                                ((3, 0), (3, 0), right, (), ("", "")), ((3, 1), (3, 1), right, (), ("", "")),
-                                                ((3, 0), (3, 1), same, (), ("+", "+")), ((3, 1), (3, 1), right, (9, 8), ("+", "")),
-                                                ((3, 1), (3, 1), right, (8, 9), ("", "+")), ((4, 1), (9, 2), right, (9, 8), ("+", "+"))):
+        for files, other, text, fits, ratings in (((3, 0), (3, 1), right, (), ("", "+")), ((0, 0), (3, 1), right, (), ("", "+")),
+                                                  ((3, 0), (3, 0), right, (), ("", "")), ((3, 1), (3, 1), right, (), ("", "")),
+                                                  ((3, 0), (3, 1), same, (), ("+", "+")), ((3, 1), (3, 1), right, (9, 8), ("+", "")),
+                                                  ((3, 1), (3, 1), right, (8, 9), ("", "+")), ((4, 1), (9, 2), right, (9, 8), ("+", "+"))):
             some = [candidate(SET, self.found(*files)), candidate(text, self.found(*other))]
             for it, count in zip(some, fits):
                 it.groups = (Held("xfs", 0, count, 0),)
             for _ in range(2):
                 kin.in_order(some, self.images)
-                self.assertEqual(tuple(it.score.sign for it in some), signs)
+                self.assertEqual(tuple(it.score.rating for it in some), ratings)
         alike = [candidate(text, self.found()) for text in (SET, right)]
         kin.in_order(alike, self.images)
         why = "another layout of these images, which contradicts it, is supported as well: at most one of them is right"
         self.assertEqual([it.doubts for it in alike], [[why], [why]])
 
     def test_rows_of_nothing_before_the_volume(self) -> None:
-        """Of sets of which one has rows before the volume of another, with nothing known in them, that has the sign whose volume begins with
+        """Of sets of which one has rows before the volume of another, with nothing known in them, that has the rating whose volume begins with
         something."""
         row = 256 * SECTOR
 
@@ -313,13 +313,13 @@ class Kin(unittest.TestCase):
             findings.append(Finding(f"at {first // SECTOR}", "xfs", clean, "said", (Piece(first, 100 * row),)))
             return Verdict(findings, Wholes(1, 1, 1 << 20), [], 110 * row, row // 2, row)
         later, earlier = "5:ls:none:128:2048:0,1,2", "5:ls:none:128:1024:2,0,1"
-        for verdicts, signs in (((found(0), found(8 * row)), ("++", "")), ((found(0), found(8 * row, True)), ("++", "++")),
-                                ((found(0), found(0)), ("++", "++")), ((found(8 * row), found(16 * row)), ("++", "++")),
-                                ((found(0, clean=False), found(8 * row)), ("", "++"))):
+        for verdicts, ratings in (((found(0), found(8 * row)), ("++", "")), ((found(0), found(8 * row, True)), ("++", "++")),
+                                  ((found(0), found(0)), ("++", "++")), ((found(8 * row), found(16 * row)), ("++", "++")),
+                                  ((found(0, clean=False), found(8 * row)), ("", "++"))):
             some = [candidate(text, verdict) for text, verdict in zip((later, earlier), verdicts)]
             for _ in range(2):
                 kin.in_order(some, self.images)
-                self.assertEqual(tuple(it.score.sign for it in some), signs)
+                self.assertEqual(tuple(it.score.rating for it in some), ratings)
         some = [candidate(later, found(0)), candidate(earlier, found(8 * row))]
         kin.in_order(some, self.images)
         self.assertEqual(some[1].doubts, ["what is found in it begins after its first 8 stripes, at the start of the volume of another layout"])
@@ -363,34 +363,34 @@ class Damaged(unittest.TestCase):
         self.assertEqual((it.word.text, it.listed and it.listed.text), (SET, "6:ls-6:after-q:128:2048:0,1,2,-"))
         self.assertEqual((it.step.relaxed, it.step.shape.missing, it.unsound, it.whole and it.whole.unsound), (["without image 3"], 1, None, 9))
 
-    def test_no_sign_beside_one_without_unsound_rows(self) -> None:
-        """A set has no sign where it has none of its unsound rows without an image, as long as parity still tells, and no less speaks for that."""
-        for text, without, unsound, verdict, signs in (("6:ls:after-q:128:2048:0,1,2,3", 2, 0, whole(), ("", "++")),
-                                                       ("6:ls:after-q:128:2048:0,1,2,3", 2, 1, whole(), ("++", "++")),
-                                                       ("6:ls:after-q:128:2048:0,1,2,3", 2, 0, whole(longest=0), ("++", "+")),
-                                                       (SET, 2, 0, whole(), ("++", "++"))):
+    def test_no_rating_beside_one_without_unsound_rows(self) -> None:
+        """A set has no rating where it has none of its unsound rows without an image, as long as parity still tells, and no less speaks for that."""
+        for text, without, unsound, verdict, ratings in (("6:ls:after-q:128:2048:0,1,2,3", 2, 0, whole(), ("", "++")),
+                                                         ("6:ls:after-q:128:2048:0,1,2,3", 2, 1, whole(), ("++", "++")),
+                                                         ("6:ls:after-q:128:2048:0,1,2,3", 2, 0, whole(longest=0), ("++", "+")),
+                                                         (SET, 2, 0, whole(), ("++", "++"))):
             it = candidate(text, whole(), unsound=7)
             lesser = damage.lesser(it, frozenset({without}))
             lesser.verdict, lesser.unsound = verdict, unsound
-            self.assertEqual(damage.is_sounder(lesser, it), signs[0] == "")
+            self.assertEqual(damage.is_sounder(lesser, it), ratings[0] == "")
             kin.in_order([it, lesser], Known.images)
-            self.assertEqual((it.score.sign, lesser.score.sign), signs)
+            self.assertEqual((it.score.rating, lesser.score.rating), ratings)
         it = candidate("6:ls:after-q:128:2048:0,1,2,3", whole(), unsound=7)
         lesser = damage.lesser(it, frozenset({2}))
         lesser.verdict, lesser.unsound = whole(), 0
         kin.in_order([it, lesser], Known.images)
         self.assertEqual(it.doubts, ["7 inconsistent rows, and none without image 2, which is old, damaged or from another array there"])
 
-    def test_no_sign_beside_one_with_more_whole_files(self) -> None:
-        """A set with unsound rows has no sign where more files are whole without an image, whether parity tells then or not."""
-        for text, more, score, signs in ((SET, 1, 9, ("", "++")), ("6:ls:after-q:128:2048:0,1,2,3", 1, 9, ("", "++")), (SET, 0, 9, ("++", "++")),
-                                         (SET, 1, 0, ("++", "+"))):
+    def test_no_rating_beside_one_with_more_whole_files(self) -> None:
+        """A set with unsound rows has no rating where more files are whole without an image, whether parity tells then or not."""
+        for text, more, score, ratings in ((SET, 1, 9, ("", "++")), ("6:ls:after-q:128:2048:0,1,2,3", 1, 9, ("", "++")), (SET, 0, 9, ("++", "++")),
+                                           (SET, 1, 0, ("++", "+"))):
             it = candidate(text, whole(), unsound=7)
             lesser = damage.lesser(it, frozenset({2}))
             lesser.verdict, lesser.unsound = whole(longest=score and it.found.files.longest), 3
             lesser.verdict.files = dataclasses.replace(lesser.verdict.files, whole=it.found.files.whole + more, found=it.found.files.found + more)
             kin.in_order([it, lesser], Known.images)
-            self.assertEqual((it.score.sign, lesser.score.sign), signs)
+            self.assertEqual((it.score.rating, lesser.score.rating), ratings)
         it = candidate(SET, whole(), unsound=7)
         lesser = damage.lesser(it, frozenset({2}))
         lesser.verdict = whole()
@@ -599,7 +599,7 @@ class Tested(InFolder):
         self.assertEqual([len(part) for part in tests.parts(some)], [1, 8])
 
     def test_files_of_many(self) -> None:
-        """Of many sets those alone are looked through for files to which these may give a sign; the others at the end, the first of them."""
+        """Of many sets those alone are looked through for files to which these may give a rating; the others at the end, the first of them."""
         for clean, looked, empty in ((3, [(3, True)], False), (99, [], False), (99, [], True)):
             some = [candidate(f"5:ls:none:8:{k}:0,1,2") for k in range(9)]
             tests, asked = self.over(), list[tuple[int, bool]]()
@@ -768,7 +768,7 @@ class Printed(unittest.TestCase):
         self.assertIn("  to undo that:\n    umount /mnt\n    umount candidate0", text)
         self.assertEqual(self.shown().lines[-1], "no candidates")
 
-    def test_why_there_is_no_sign(self) -> None:
+    def test_why_there_is_no_rating(self) -> None:
         little = whole()
         little.length = 100000
         self.assertIn("no rating: what was found covers 1% of the volume", self.shown(candidate(verdict=little)).text)

@@ -203,7 +203,7 @@ class Attempts(unittest.TestCase):
         self.assertEqual(self.order((Shape("5", 3), *shapes), True)[:4], ["list 0", "list 0", *then])
 
     def test_what_is_relaxed_of_what_is_content(self) -> None:
-        """The shapes of which a candidate has a sign already, and no others; all where none has."""
+        """The shapes of which a candidate has a rating already, and no others; all where none has."""
         asked: list[tuple[Shape, ...]] = []
 
         def stage(it: Stage, _hunt: Any) -> bool:
@@ -212,10 +212,10 @@ class Attempts(unittest.TestCase):
         shapes = Shape("0", 3), Shape("5", 4, 1), Shape("6", 5, 2)
         cases: list[tuple[list[Shape], list[tuple[Shape, ...]]]] = [
             ([shapes[0]], [(shapes[0],)]), ([shapes[2], shapes[1]], [shapes[1:]]), ([], [shapes, shapes]), ([Shape("5", 3)], [shapes])]
-        for signed, wanted in cases:
+        for rated, wanted in cases:
             asked.clear()
             found = types.SimpleNamespace(encrypted=[])
-            tested = [types.SimpleNamespace(score=Score.CHECKED, found=found, step=types.SimpleNamespace(shape=shape)) for shape in signed]
+            tested = [types.SimpleNamespace(score=Score.CHECKED, found=found, step=types.SimpleNamespace(shape=shape)) for shape in rated]
             search = types.SimpleNamespace(options=Options(("a",)), take_stage=stage, tested=tested, is_hopeless=lambda _: False)
             it = Evident(cast(Any, search))
             it.relaxed(cast(Any, types.SimpleNamespace(program=types.SimpleNamespace())), Aim((0, 1, 2), Span(0, 9), "why", shapes), 0)
@@ -383,7 +383,7 @@ class Apart(unittest.TestCase):
             self.assertEqual(self.unlike((few, ties.Known(other)), (1, 2), (), offsets), [])
 
     def copies(self, aim: Aim, *content: int) -> tuple[bool, list[str]]:
-        """Whether the search is at its end, and what was asked of copies, where candidates of these questions have a sign."""
+        """Whether the search is at its end, and what was asked of copies, where candidates of these questions have a rating."""
         asked: list[str] = []
         it, _ = evident([*self.images, Image("d", 3, 900, like=0), Image("e", 4, 900, like=0)], NoTools({}), Options(("a",)))
 
@@ -414,7 +414,7 @@ class Enough(unittest.TestCase):
     """Which candidates say enough."""
 
     def test_content_or_closed(self) -> None:
-        """One with a sign does, and one that is encrypted where parity speaks for it."""
+        """One with a rating does, and one that is encrypted where parity speaks for it."""
         def candidate(score: Score, parity: bool, encrypted: list[str]) -> Any:
             step = types.SimpleNamespace(shape=types.SimpleNamespace(parity=parity))
             return types.SimpleNamespace(score=score, step=step, found=types.SimpleNamespace(encrypted=encrypted))
@@ -568,7 +568,7 @@ class Sought(unittest.TestCase):
 
     def with_all(self, images: tuple[int, ...], has: int | None) -> tuple[list[Any], list[Any], list[str], bool]:
         """The steps of an aim over images 2 and 0 with all of a family, the hunts that were begun for them, what was said, and whether a candidate
-        with all of them has a sign, where the step with so many things relaxed finds it, 0 of which is one that was there before."""
+        with all of them has a rating, where the step with so many things relaxed finds it, 0 of which is one that was there before."""
         it, report = evident([Image(name, number, 900, first=8) for number, name in enumerate("abc")], NoTools({}), Options(("a",), seconds=60))
         setattr(it.search, "say_late", None)
         true, less = (cast(Any, types.SimpleNamespace(score=score, word=types.SimpleNamespace(images=those)))
@@ -594,7 +594,7 @@ class Sought(unittest.TestCase):
 
     def test_with_all(self) -> None:
         """Where few rows leave images out, all of the family are tried as well, with rows that may be bad, until a candidate with all of them has a
-        sign: in the same hunt where the images are the same, and else in one over all of them."""
+        rating: in the same hunt where the images are the same, and else in one over all of them."""
         for images, name in (((2, 0), "old"), ((0, 1, 2), "new")):
             why = Unsound(images, Shape("5", 3)).line()
             for has, count in ((None, 2), (0, 0), (1, 1), (2, 2)):

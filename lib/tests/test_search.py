@@ -105,7 +105,7 @@ class Runs(InFolder):
         self.assertNotIn("diagnosis", self.report.text)
 
     def test_evidence_that_says_enough_ends_it(self) -> None:
-        """An encrypted volume has no sign, and may have no score: nothing is searched over all images then, nor diagnosed."""
+        """An encrypted volume has no rating, and may have no score: nothing is searched over all images then, nor diagnosed."""
         with mock.patch.object(Evident, "run", lambda _: True):
             search = self.run_search(self.search())
         self.assertEqual((search.best(), search.solved, self.standin.count("reraid list"), self.standin.count("reraid survey")),
@@ -134,7 +134,7 @@ class Runs(InFolder):
             self.assertEqual(sum(line.startswith(f"{search.room.base} has ") for line in self.report.lines), said)
             self.assertEqual(self.report.record.last("room").get("images", 3 * SIZE * SECTOR), 3 * SIZE * SECTOR)
 
-    def test_a_small_file_system_has_no_sign(self) -> None:
+    def test_a_small_file_system_has_no_rating(self) -> None:
         few: dict[str, Any] = {"levels": ("5",), "members": (3,), "seconds": 1}
         search = self.run_search(self.search(self.listing("levels 5\n"), self.volume(length=512 * 1024), **few))
         self.assertIs(search.best(), Score.KNOWN)
@@ -307,7 +307,7 @@ class Statuses(InFolder):
         self.assertEqual(os.listdir(f"{self.folder}/room"), [])
         return out.getvalue()
 
-    def test_signed(self) -> None:
+    def test_rated(self) -> None:
         text = self.ends(0, "--levels", "5", "--members", "3", says="candidate 0: RAID 5 of 3 disks, left-symmetric")
         self.assertRegex(text, r"(?m)^\+   0   5:ls:none:128:2048:0,1,2\n(?: {8}.*\n)*? {8}relaxed: nothing; landmarks that match: xfs 2")
 
@@ -371,7 +371,7 @@ class Statuses(InFolder):
         self.assertIn("no candidates\ninterrupted before any volume was checked", self.interrupted("slow list", signal.SIGTERM))
 
     def test_numbers(self) -> None:
-        self.assertEqual((main.SIGNED, main.NONE, main.OUTSIDE, main.INTERRUPTED, main.CLOSED), (0, 1, 3, 130, 141))
+        self.assertEqual((main.RATED, main.NONE, main.OUTSIDE, main.INTERRUPTED, main.CLOSED), (0, 1, 3, 130, 141))
 
 
 if __name__ == "__main__":

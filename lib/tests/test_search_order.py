@@ -74,8 +74,8 @@ class Runs(unittest.TestCase):
         return done
 
     def test_what_follows(self) -> None:
-        """More is read, and landmarks left out, only where nothing is known; where nothing has a sign the files that were put off are looked for, and
-        a diagnosis stands."""
+        """More is read, and landmarks left out, only where nothing is known; where nothing has a rating the files that were put off are looked for,
+        and a diagnosis stands."""
         self.assertEqual(self.done(Score.NOTHING, more=True), ["pass 9 0", "pass all 0", "bare", "files of 1", "diagnosis", "rows"])
         self.assertEqual(self.done(Score.NOTHING), ["pass 9 0", "bare", "files of 1", "diagnosis", "rows"])
         self.assertEqual(self.done(Score.KNOWN, more=True), ["pass 9 0", "files of 1", "diagnosis", "rows"])
@@ -83,7 +83,7 @@ class Runs(unittest.TestCase):
         self.assertEqual(self.done(Score.NOTHING, solved=True, more=True), ["pass 9 0", "files of 1", "rows"])
 
     def test_a_reshape(self) -> None:
-        """Where ties change for good is said once more at the end of a run in which nothing has a sign."""
+        """Where ties change for good is said once more at the end of a run in which nothing has a rating."""
         for best, count in ((Score.KNOWN, 1), (Score.CHECKED, 0)):
             it = search()
             it.tested, it.reshapes = [tested(best)], [Reshape(99, 100, frozenset(range(5)), frozenset(range(4)))]

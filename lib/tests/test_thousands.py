@@ -170,7 +170,7 @@ class Asked(unittest.TestCase):
     """Of which aims landmarks by the thousand are asked."""
 
     def by_thousands(self, kinds: tuple[str, ...], groups: tuple[str, ...], shapes: tuple[Shape, ...] = SHAPES) -> list[str]:
-        """What is asked where the program knows these kinds and these groups are seen, in a search that has a candidate with a sign already."""
+        """What is asked where the program knows these kinds and these groups are seen, in a search that has a candidate with a rating already."""
         asked: list[str] = []
 
         def plan(_request: Any) -> Plan:

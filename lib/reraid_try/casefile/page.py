@@ -13,7 +13,7 @@ from .style import STYLE
 LEAST_UNSOUND = 20
 ABOUT = """This page reports what one run of reraid-try read, tried and found. reraid-try only reads the images. It does not choose between
 candidates: each listed layout passed the tests that are named beside it."""
-SIGNS = """++: long files are intact or all data checksums match, and no file system checker reports errors. +: only a checker reports no errors, or
+RATINGS = """++: long files are intact or all data checksums match, and no file system checker reports errors. +: only a checker reports no errors, or
 the rating was lowered. A candidate rated + may be wrong: open files before you rely on it."""
 PROVED = """It is proved that the program reraid lists exactly the layouts that pass, and that it writes exactly the volume of a layout. The search
 and this page come from a script that is tested, and not proved."""
@@ -48,10 +48,10 @@ STEPS = (("step", True), ("what", False), ("why", False), ("relaxed", False), ("
 CANDIDATES = (("candidate", True), ("rating", False), ("layout", False), ("relaxed", False), ("rows and landmarks", False), ("its volume", False))
 
 
-def sign(candidate: Event) -> str:
-    """The sign of a candidate; nothing where it has none."""
+def rating(candidate: Event) -> str:
+    """The rating of a candidate; nothing where it has none."""
     told = "+" * max(0, int(candidate.get("score", 0)) - 1)
-    return f'<span class="sign">{told}</span>' if told else ""
+    return f'<span class="rating">{told}</span>' if told else ""
 
 
 def beside(told: str) -> tuple[list[str], list[str]]:
@@ -93,7 +93,7 @@ class Page:
                 continue
             candidate: Event = next((one for one in self.found if one["class"] == it["class"]), {})
             (head, *said), rest = beside(it["text"])
-            part = f"<p><b>{sign(candidate)} {text(head)}</b></p>" + "".join(f"<p>{text(line)}</p>" for line in said)
+            part = f"<p><b>{rating(candidate)} {text(head)}</b></p>" + "".join(f"<p>{text(line)}</p>" for line in said)
             lines = "\n".join(it.get("commands", []))
             part += soft("To mount it read-only, as root:") + f"<pre>{text(lines)}</pre>" if lines else ""
             ends = "\n".join(it.get("ends", []))
@@ -102,7 +102,7 @@ class Page:
             made.append(f'<div class="verdict">{part}</div>')
         if not made:
             return f'<div class="verdict none">{self.answer() or f"<p>{NO_GOOD}</p>"}</div>'
-        return section("The best candidates", soft(text(SIGNS)), *made)
+        return section("The best candidates", soft(text(RATINGS)), *made)
 
     def terms(self) -> str:
         """Return the box with the terms of this page."""
@@ -163,7 +163,7 @@ class Page:
         if not self.found:
             why = "no layout passed in any step" if self.record.last("trial") else "there was no search step"
             return section("Candidates", rest or f"<p>None: {why}.</p>")
-        rows = [(str(it["class"]), sign(it), "<br>".join(code(word) for word in (it["set"], *it.get("alike", []))),
+        rows = [(str(it["class"]), rating(it), "<br>".join(code(word) for word in (it["set"], *it.get("alike", []))),
                  text(" and ".join(it["loosened"]) or "nothing"), text(self.fits(it)), text(self.volume(it))) for it in self.found]
         about = soft("Layouts below one another give the same volume. Of landmarks, the first number counts matches, the second mismatches.")
         return section("Candidates", about, table(CANDIDATES, rows), rest, *(self.parity(it) for it in self.record.of("parity")))

@@ -13,7 +13,7 @@ from .verdicts import Score, Verdict
 
 # A set of which more than one in so many filled rows is unsound is doubtful.
 MOST_UNSOUND = 2
-# Why a set has no sign that marks speak against.
+# Why a set has no rating that marks speak against.
 AGAINST = "some landmarks contradict it, and no file that was found is intact"
 # What is said where a volume at level 0 ends too soon and its images differ in length.
 UNEQUAL = "the images differ in length, and RAID 0 that continues on only the longer disks is not searched"
@@ -80,7 +80,7 @@ class Candidate:
 
     @property
     def lessened(self) -> bool:
-        """There is one sign less: a group with most of the marks was left out. One sign is left where files tell the order of the chunks."""
+        """There is one plus less: a group with most of the marks was left out. One plus is left where files tell the order of the chunks."""
         return self.left_most and self.found.score >= Score.CHECKED and not self.found.in_order
 
     @property
@@ -90,7 +90,7 @@ class Candidate:
 
     @property
     def doubts(self) -> list[str]:
-        """Why it has no sign, or one less."""
+        """Why it has no rating, or one less."""
         kept = self.left_most and self.found.in_order
         left = ["a landmark group with most landmarks was left out"] * (self.left_most and not kept)
         against = [AGAINST] * (self.spoken_against and self.found.score >= Score.CHECKED)
@@ -137,7 +137,7 @@ class Candidate:
 
     @property
     def place(self) -> tuple[int, int, tuple[int, str, int], tuple[int, int, int]]:
-        """What it is printed by: the sign, how many more marks fit than do not, the members, and the order of tests."""
+        """What it is printed by: the rating, how many more marks fit than do not, the members, and the order of tests."""
         return -max(self.score, Score.KNOWN), -self.fits, self.word.simplicity, self.order
 
 

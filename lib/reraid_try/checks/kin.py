@@ -18,7 +18,7 @@ TURNS = {"ls": -1, "rs": 1}
 FIXED = ("plain", "parity-first", "parity-last")
 BY_SLOT = "by-slot"
 PLAIN = ("0", "plain", "none")
-# Why a set has no sign beside another one.
+# Why a set has no rating beside another one.
 CONTENT = "another layout of these images, which contradicts it, has long intact files"
 BROKEN = "another layout of these images, which contradicts it, has intact files, and this one has none"
 UNSOUND = "parity is consistent in far fewer rows than with another layout of these images, which has long intact files too"
@@ -43,16 +43,16 @@ class Key:
 
 def in_order(tested: Sequence[Candidate], images: Sequence[Image]) -> list[Candidate]:
     """The candidates as they are printed: those with the most to say for them first, of one volume the simplest; each with the number of the first
-    one that has the same volume, and of one in which its volume begins. Those have no sign beside which another one has more for itself."""
+    one that has the same volume, and of one in which its volume begins. Those have no rating beside which another one has more for itself."""
     same = same_images(images)
     # Once is for all: such a one has a lower score then.
     for it in tested:
         it.unsettled = ""
-    signed = [it for it in tested if it.score >= Score.CHECKED]
-    spoken = [next((told for one in signed if (told := rivalled(it, one, same))), "") for it in signed]
-    for it, told in zip(signed, spoken):
+    rated = [it for it in tested if it.score >= Score.CHECKED]
+    spoken = [next((told for one in rated if (told := rivalled(it, one, same))), "") for it in rated]
+    for it, told in zip(rated, spoken):
         it.rivalled = told
-    whole = [it for it in signed if it.score is Score.WHOLE]
+    whole = [it for it in rated if it.score is Score.WHOLE]
     unsettled = [next((told for one in whole if one is not it and contradict(it, one, same) and (told := rivals.unsettled(it, one))), "")
                  for it in whole]
     for it, told in zip(whole, unsettled):
@@ -102,7 +102,7 @@ def rows_behind(inner: Key, outer: Key) -> int:
 
 
 def rivalled(it: Candidate, other: Candidate, same: Mapping[int, int]) -> str:
-    """How a candidate with a sign is contradicted by another one that has more for itself; nothing where it is not."""
+    """How a candidate with a rating is contradicted by another one that has more for itself; nothing where it is not."""
     rows = rows_before(it, other, same)
     if rows:
         return f"what is found in it begins after its first {rows} stripes, at the start of the volume of another layout"

@@ -28,7 +28,7 @@ from .volumes import Room, Source
 FEW, MOST_BEGUN, MOST_CLASSED = 8, 2048, 1024
 # More sets at once are put off where parity tells nothing, and so many are looked at that begin with nothing known.
 MOST_UNTOLD, MOST_UNKNOWN = 1024, 256
-# In so many volumes that have no sign, whatever files are in them, these are looked for at the end.
+# In so many volumes that have no rating, whatever files are in them, these are looked for at the end.
 MOST_COUNTED = 256
 # How far into a volume a file system may begin to be looked for before the whole is read, in sectors.
 FARTHEST = 131072
@@ -228,8 +228,8 @@ class Tests:
         return tested
 
     def looked_at(self, classes: list[Candidate]) -> list[Candidate]:
-        """Looks at the volumes of these. Of many the checkers are asked first, and files are looked for where they may give a sign; elsewhere at the
-        end, since they are the longer work."""
+        """Looks at the volumes of these. Of many the checkers are asked first, and files are looked for where they may give a rating; elsewhere at
+        the end, since they are the longer work."""
         if len(classes) <= FEW:
             return self.side_by_side(self.read, classes, "checks the candidates", self.tell)
         self.side_by_side(lambda it: self.read(it, False), classes, "runs the checkers over the candidates")
@@ -237,7 +237,7 @@ class Tests:
         return classes
 
     def count_late(self, tested: Sequence[Candidate]) -> None:
-        """Looks for files in the volumes where that was put off, as they give no sign: in the first of these, as they are printed."""
+        """Looks for files in the volumes where that was put off, as they give no rating: in the first of these, as they are printed."""
         left = sorted((it for it in tested if it.found.settled and not it.found.counted and it.found.length <= self.options.first),
                       key=lambda it: it.place)
         self.side_by_side(self.read, left[:MOST_COUNTED], "looks for files in the candidates")

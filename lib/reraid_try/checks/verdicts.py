@@ -26,7 +26,7 @@ class Score(enum.IntEnum):
     WHOLE = 3
 
     @property
-    def sign(self) -> str:
+    def rating(self) -> str:
         """What stands for it in the table."""
         return "+" * max(0, self - 1)
 
@@ -206,7 +206,7 @@ class Verdict:
 
     @property
     def settled(self) -> bool:
-        """Whatever files are in it, it has no sign: a checker found fault, or nothing lies in what was found."""
+        """Whatever files are in it, it has no rating: a checker found fault, or nothing lies in what was found."""
         return self.refuted or self.empty
 
     @property
@@ -243,7 +243,7 @@ class Verdict:
 
     @property
     def doubts(self) -> list[str]:
-        """Why what was found says too little for a sign."""
+        """Why what was found says too little for a rating."""
         said: list[str] = []
         if self.settled:
             return said

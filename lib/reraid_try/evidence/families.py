@@ -74,7 +74,7 @@ class Reshape:
                 f". Or nothing is stored on image {out} there, since it is zeros there" * self.empty)
 
     def short(self) -> str:
-        """What is said of it at the end, where no volume has a sign, and how to go on."""
+        """What is said of it at the end, where no volume has a rating, and how to go on."""
         out, first = ", ".join(map(str, sorted(self.before - self.after))), max(MIB, (self.last + 1) * SECTOR)
         return (f"perhaps a reshape from {len(self.after)} to {len(self.before)} disks stopped between sectors {self.last} and {self.sector}, as "
                 "reported above. Then no single layout gives the whole volume: the first array ends there, and the second begins. To search for the "

@@ -41,7 +41,7 @@ def is_fat(head: bytes) -> bool:
 
 
 @dataclasses.dataclass(frozen=True)
-class Sign:
+class Signature:
     """What something begins with: its type as `blkid` has it, the bytes at a place, and what else must hold of its first bytes."""
 
     kind: str
@@ -54,28 +54,28 @@ class Sign:
         return head[self.place:self.place + len(self.magic)] == self.magic and self.holds(head)
 
 
-SIGNS = (
-    Sign("crypto_LUKS", 0, b"LUKS\xba\xbe"),
-    Sign("BitLocker", 3, b"-FVE-FS-"),
-    Sign("xfs", 0, b"XFSB"),
-    Sign("ntfs", 3, b"NTFS    "),
-    Sign("exfat", 3, b"EXFAT   "),
-    Sign("ext4", EXT_PLACE + 56, b"\x53\xef", is_first_ext),
-    Sign("btrfs", 65536 + 64, b"_BHRfS_M"),
-    Sign("jfs", 32768, b"JFS1"),
-    Sign("reiserfs", 65536 + 52, b"ReIsEr"),
-    *(Sign("LVM2_member", place, b"LABELONE") for place in range(0, 4 * SECTOR, SECTOR)),
-    Sign("vfat", 82, b"FAT32   ", is_fat),
-    Sign("vfat", 54, b"FAT16   ", is_fat),
-    Sign(bcache.KIND, bcache.PLACE * SECTOR + bcache.MAGIC_PLACE, bcache.MAGIC),
+SIGNATURES = (
+    Signature("crypto_LUKS", 0, b"LUKS\xba\xbe"),
+    Signature("BitLocker", 3, b"-FVE-FS-"),
+    Signature("xfs", 0, b"XFSB"),
+    Signature("ntfs", 3, b"NTFS    "),
+    Signature("exfat", 3, b"EXFAT   "),
+    Signature("ext4", EXT_PLACE + 56, b"\x53\xef", is_first_ext),
+    Signature("btrfs", 65536 + 64, b"_BHRfS_M"),
+    Signature("jfs", 32768, b"JFS1"),
+    Signature("reiserfs", 65536 + 52, b"ReIsEr"),
+    *(Signature("LVM2_member", place, b"LABELONE") for place in range(0, 4 * SECTOR, SECTOR)),
+    Signature("vfat", 82, b"FAT32   ", is_fat),
+    Signature("vfat", 54, b"FAT16   ", is_fat),
+    Signature(bcache.KIND, bcache.PLACE * SECTOR + bcache.MAGIC_PLACE, bcache.MAGIC),
 )
 
 
 def sniff(head: bytes) -> str | None:
     """What these bytes are the head of; None where that is nothing known."""
-    for sign in SIGNS:
-        if sign.is_on(head):
-            return sign.kind
+    for signature in SIGNATURES:
+        if signature.is_on(head):
+            return signature.kind
     return tables.read_table(lambda place, count: head[place:place + count], len(head) // SECTOR).kind
 
 
@@ -93,8 +93,8 @@ class Head:
 SOUGHT: tuple[tuple[str, int, int, int, Callable[[bytes], bool]], ...] = (
     ("mbr", SECTOR - 1, 0xAA, 0, lambda sector: bool(tables.read_mbr(sector))),
     ("ext", 57, 0xEF, EXT_SECTORS, is_ext),
-    ("luks", 0, 0x4C, 0, SIGNS[0].is_on),
-    ("bitlocker", 3, 0x2D, 0, SIGNS[1].is_on),
+    ("luks", 0, 0x4C, 0, SIGNATURES[0].is_on),
+    ("bitlocker", 3, 0x2D, 0, SIGNATURES[1].is_on),
     (bcache.KIND, bcache.MAGIC_PLACE, bcache.MAGIC[0], bcache.PLACE, bcache.is_superblock),
 )
 # Those that say where a volume begins without saying anything of a level.

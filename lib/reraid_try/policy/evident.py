@@ -279,8 +279,8 @@ class Evident:
         self.search.take(hunt, told, listing.sets, lambda it: (None if word.copying else word, hunt.word(it.text)))
 
     def with_all(self, hunt: Hunt, aim: Aim, unsound: Unsound, before: int) -> bool:
-        """The steps of an aim with all images of the family in slots, where rows may be bad, unless such a candidate has a sign already: what leaves
-        some out may be whole too, and does not say that these are old. It says whether there is such a candidate."""
+        """The steps of an aim with all images of the family in slots, where rows may be bad, unless such a candidate has a rating already: what
+        leaves some out may be whole too, and does not say that these are old. It says whether there is such a candidate."""
         if self.has_all(unsound, before):
             return True
         search, why = self.search, self.search.why
@@ -296,7 +296,7 @@ class Evident:
         return found
 
     def has_all(self, unsound: Unsound, before: int) -> bool:
-        """A candidate that was tested since has a sign, with all images of a family in slots."""
+        """A candidate that was tested since has a rating, with all images of a family in slots."""
         return any(it.score >= Score.CHECKED and set(unsound.images) <= set(it.word.images) for it in self.since(before))
 
     def relax(self, it: Later) -> bool:
@@ -469,7 +469,7 @@ class Evident:
         return any(map(is_closed, self.since(before)))
 
     def is_content(self, before: int, shape: Shape | None = None) -> bool:
-        """A candidate that was tested since has a sign; one of a shape, where it is named."""
+        """A candidate that was tested since has a rating; one of a shape, where it is named."""
         return any(it.score >= Score.CHECKED and (shape is None or it.step.shape == shape) for it in self.since(before))
 
     def since(self, before: int) -> list[Candidate]:

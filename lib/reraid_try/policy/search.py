@@ -103,7 +103,7 @@ class Search:
             self.report.say("read", amounts.in_all(read, len(self.images)), bytes=read)
 
     def say_reshapes(self) -> None:
-        """Says once more where ties change for good, where nothing has a sign."""
+        """Says once more where ties change for good, where nothing has a rating."""
         for it in self.reshapes if self.best() < Score.CHECKED else ():
             self.report.say("reshape", it.short(), last=it.last, first=it.sector, before=sorted(it.before), after=sorted(it.after))
 

@@ -29,7 +29,7 @@ def lines(number: int, it: Candidate) -> list[str]:
     matches = [f"landmarks that match: {' '.join(group.short() for group in it.groups)}"] if it.groups else []
     bad = [counted(it.unsound, "inconsistent row")] if it.unsound else []
     tests = "; ".join([f"relaxed: {' and '.join(it.step.relaxed) or 'nothing'}", *matches, *bad])
-    return [f"{it.score.sign:4}{number:<4}{it.word.text}", *(INDENT + told for told in (*it.alike, volume, tests))]
+    return [f"{it.score.rating:4}{number:<4}{it.word.text}", *(INDENT + told for told in (*it.alike, volume, tests))]
 
 
 def fields(number: int, it: Candidate) -> dict[str, Any]:
@@ -37,7 +37,7 @@ def fields(number: int, it: Candidate) -> dict[str, Any]:
     found = it.found
     inside = [it.inside.number, it.inside.rows] if it.inside else None
     return {"class": number, "set": it.word.text, "rank": it.rank, "loosened": it.step.relaxed, "unsound": it.unsound,
-            "fits": [group.short() for group in it.groups], "alike": it.alike, "score": int(it.score), "sign": it.score.sign, "doubts": it.doubts,
+            "fits": [group.short() for group in it.groups], "alike": it.alike, "score": int(it.score), "sign": it.score.rating, "doubts": it.doubts,
             "clean": found.clean, "files": found.files.found, "files_whole": found.files.whole, "same": it.same, "inside": inside,
             "found": [finding.text() for finding in found.findings], "note": "; ".join(found.notes), "trial": it.step.number}
 

@@ -51,7 +51,7 @@ def short(names: Sequence[str]) -> list[str]:
 
 
 def slots(word: Word, names: Sequence[str]) -> str:
-    """The image of each slot; of copies that fill slots side by side with a plus between them."""
+    """The image of each slot; of copies that fill slots side by side with an equals sign between them."""
     told = ["(missing)" if slot is None else names[slot] for slot in word.slots]
     if word.together > 1:
         groups = ("=".join(told[first:first + word.together]) for first in range(0, len(told), word.together))

@@ -30,7 +30,7 @@ from reraid_try.evidence.maps import Map
 from reraid_try.opening import Opened
 from reraid_try.options import Options
 from reraid_try.policy import relaxations
-from reraid_try.policy.hunt import Hunt
+from reraid_try.policy.scope import Scope
 from reraid_try.policy.shapes import Shape
 from reraid_try.policy.steps import Step
 from reraid_try.report import report, table, words
@@ -43,14 +43,14 @@ SET = "5:ls:none:128:2048:0,1,2"
 
 
 class Known:
-    """What stands for the evidence of a hunt."""
+    """What stands for the evidence of a scope."""
 
     filled, window, start, end, unread = 1000, 8000, 0, 8000, 0
     images = tuple(Image(f"i{k}", k, 8000) for k in range(4))
 
 
 class Over:
-    """What stands for a hunt."""
+    """What stands for a scope."""
 
     def __init__(self, *answers: tuple[str, object]) -> None:
         self.standin = Standin(*answers)  # type: ignore[arg-type]
@@ -68,13 +68,13 @@ class Over:
         return self.plan
 
     def word(self, text: str) -> Word:
-        """A set of this hunt, over all images."""
+        """A set of this scope, over all images."""
         word = read_word(text)
         return word.having(tuple(None if slot is None else self.evidence.images[slot].number for slot in word.slots))
 
 
 class OfPlan(Over):
-    """What stands for a hunt, and for its surveys."""
+    """What stands for a scope, and for its surveys."""
 
     def __init__(self, *answers: tuple[str, object]) -> None:
         super().__init__(*answers)
@@ -91,9 +91,9 @@ class OfPlan(Over):
             return self.made
 
 
-def hunt_of(*answers: tuple[str, object]) -> Hunt:
-    """A hunt of which `reraid` says this."""
-    return cast(Hunt, OfPlan(*answers))
+def scope_of(*answers: tuple[str, object]) -> Scope:
+    """A scope of which `reraid` says this."""
+    return cast(Scope, OfPlan(*answers))
 
 
 def whole(clean: bool | None = True, longest: int = 1 << 20, kind: str = "xfs") -> Verdict:
@@ -106,8 +106,8 @@ def candidate(text: str = SET, verdict: Verdict | None = None, chosen: Sequence[
     """A candidate of a step."""
     word = read_word(text)
     step = Step(Shape(word.level, len(word.slots), word.lost), tuple(chosen), BASE, number)
-    hunt = cast(Hunt, values.pop("hunt", None) or hunt_of())
-    return Candidate(word, rank, step, hunt, listed=None if word.is_mirrored else word, verdict=verdict, **values)  # type: ignore[arg-type]
+    scope = cast(Scope, values.pop("scope", None) or scope_of())
+    return Candidate(word, rank, step, scope, listed=None if word.is_mirrored else word, verdict=verdict, **values)  # type: ignore[arg-type]
 
 
 def place(it: Candidate) -> tuple[int, int, tuple[int, str, int], tuple[int, int, int]]:
@@ -168,10 +168,10 @@ class OfCandidates(unittest.TestCase):
         long = Verdict([Finding("", "vfat", pieces=(Piece(0, 1024),), told=2048, there=1024)], Wholes(1, 1, 1 << 20), length=1024)
         for text, lengths, verdict, said in (("0:plain:none:8:0:0,1", (8000, 9000), long, 2), ("0:plain:none:8:0:0,1", (8000, 8000), long, 1),
                                              (SET, (8000, 9000), long, 1), ("0:plain:none:8:0:0,1", (8000, 9000), whole(), 0)):
-            hunt = hunt_of()
+            scope = scope_of()
             evidence = types.SimpleNamespace(images=[Image("i", k, length) for k, length in enumerate(lengths)], filled=1000)
-            setattr(hunt, "evidence", evidence)
-            it = candidate(text, verdict, hunt=hunt)
+            setattr(scope, "evidence", evidence)
+            it = candidate(text, verdict, scope=scope)
             self.assertEqual((len(it.doubts), it.score), (said, Score.KNOWN if said else Score.WHOLE))
             self.assertEqual([doubt for doubt in it.doubts if doubt.startswith("the images differ")], it.doubts[1:])
 
@@ -247,9 +247,9 @@ class Kin(unittest.TestCase):
         """Of sets with a content checker what rating each has beside one with long whole files, whose part of the disks begins at some sector."""
         ratings = []
         for text in texts:
-            other = hunt_of()
+            other = scope_of()
             setattr(other, "evidence", types.SimpleNamespace(start=start, end=9000, filled=1000))
-            first, content = candidate(good, whole(), hunt=other), candidate(text, self.found())
+            first, content = candidate(good, whole(), scope=other), candidate(text, self.found())
             order = kin.in_order([content, first], self.images)
             self.assertEqual((order[0], first.score), (first, Score.WHOLE))
             self.assertEqual([it.score for it in kin.in_order(order, self.images)], [it.score for it in order])
@@ -409,14 +409,14 @@ class OfRows(unittest.TestCase):
         return "reraid check", answer
 
     def test_bounds(self) -> None:
-        found = Rows(hunt_of(self.unsound(7, 300, 999)))
+        found = Rows(scope_of(self.unsound(7, 300, 999)))
         near = Near(SET, plan_of(XFS))
         self.assertTrue(found.ask(near))
         self.assertEqual((near.told.unsound, found.bounds(near)), (3, Bounds(7, 999)))
         self.assertEqual(near.line(Bounds(7, 999)), f"  {SET}: 3 of 1000 rows inconsistent, first 7 and last 999; no landmarks")
         near.told = dataclasses.replace(near.told, seconds=rows.SLOW)
         self.assertEqual(found.bounds(near), Bounds())
-        self.assertFalse(Rows(hunt_of(("reraid check", Answer(None)))).ask(near))
+        self.assertFalse(Rows(scope_of(("reraid check", Answer(None)))).ask(near))
         self.assertEqual(near.told.unsound, 3)
 
     def test_in_words(self) -> None:
@@ -429,7 +429,7 @@ class OfRows(unittest.TestCase):
         self.assertEqual([Bounds(0, 12).text(), Bounds(7).text(), Bounds(None, 7).text()], [", first 0 and last 12", "", ""])
 
     def test_whole(self) -> None:
-        found = Rows(hunt_of(self.unsound()))
+        found = Rows(scope_of(self.unsound()))
         self.assertEqual(found.whole(candidate()), "parity is consistent in all 1000 rows")
         self.assertEqual(found.whole(candidate("5:ls:none:8:0:0,1,-")), "no parity is left to test with 1 empty slot")
         self.assertEqual(found.whole(candidate("0:plain:none:8:0:0,1")), "RAID 0 has no parity to test")
@@ -438,25 +438,25 @@ class OfRows(unittest.TestCase):
         self.assertEqual(found.whole(left_out), "with what is left out for bad rows, 5 rows tested inconsistent")
 
     def test_old_image(self) -> None:
-        hunt = hunt_of(self.unsound(600, 601, 700))
-        found = Rows(hunt).old(candidate("6:ls:by-data:128:2048:0,-,1,2"))
+        scope = scope_of(self.unsound(600, 601, 700))
+        found = Rows(scope).old(candidate("6:ls:by-data:128:2048:0,-,1,2"))
         self.assertEqual([it.text(["a", "b", "c", "d.img"]) for it in found],
                          ["d.img is old or damaged from row 600 on, or from another array. In slot 1, parity is consistent with it in all but 3 of "
                           "1000 rows"])
-        asked = cast(OfPlan, hunt).standin.asked[0][0]
+        asked = cast(OfPlan, scope).standin.asked[0][0]
         self.assertIn("set=6:ls:by-data:128:2048:0,3,1,2", asked)
-        self.assertEqual(Rows(hunt).old(candidate("6:ls:by-data:128:2048:0,3,1,2")), [])
+        self.assertEqual(Rows(scope).old(candidate("6:ls:by-data:128:2048:0,3,1,2")), [])
         # With another one missing at level 5 parity tells nothing; where most rows are unsound, or none is, the image is not old.
-        self.assertEqual(Rows(hunt_of(self.unsound())).old(candidate("6:ls:by-data:128:2048:0,-,1,2")), [])
-        self.assertEqual(Rows(hunt_of(self.unsound(*range(500)))).old(candidate("6:ls:by-data:128:2048:0,-,1,2")), [])
+        self.assertEqual(Rows(scope_of(self.unsound())).old(candidate("6:ls:by-data:128:2048:0,-,1,2")), [])
+        self.assertEqual(Rows(scope_of(self.unsound(*range(500)))).old(candidate("6:ls:by-data:128:2048:0,-,1,2")), [])
 
     def test_image_that_was_being_rebuilt(self) -> None:
         """Rows are unsound up to where the other images end to hold something, within a chunk."""
         for last, end in ((2048 + 828, True), (2048 + 829, False)):
-            hunt = hunt_of(self.unsound(600, 601, 700))
+            scope = scope_of(self.unsound(600, 601, 700))
             images = tuple(Image(f"i{k}", k, 8000, last=7000 if k == 3 else last) for k in range(4))
-            setattr(hunt, "evidence", types.SimpleNamespace(images=images, filled=1000, window=8000, end=8000))
-            found = Rows(hunt).old(candidate("6:ls:by-data:128:2048:0,-,1,2"))
+            setattr(scope, "evidence", types.SimpleNamespace(images=images, filled=1000, window=8000, end=8000))
+            found = Rows(scope).old(candidate("6:ls:by-data:128:2048:0,-,1,2"))
             self.assertEqual([it.text("abcd").endswith("of 1000 rows; perhaps it was being rebuilt, up to there") for it in found], [end])
         self.assertNotIn("rebuilt", rows.Old(3, 1, Checked(3, 1000), Bounds(0, 900), True).text("abcd"))
 
@@ -465,10 +465,10 @@ class OfRows(unittest.TestCase):
         for word, said in (("6:ls:by-data:128:2048:0,-,1,2", "d is old or damaged from"),
                            ("6:ls:by-data:128:2048:0,-,1,-", "or another image, is old"),
                            ("5:ls:none:128:2048:0,-,1,2", "d, or another image, is old or damaged from")):
-            hunt = hunt_of(self.unsound(600, 601, 700))
+            scope = scope_of(self.unsound(600, 601, 700))
             images = tuple(Image(f"i{k}", k, 8000, last=7000) for k in range(4))
-            setattr(hunt, "evidence", types.SimpleNamespace(images=images, filled=1000, window=8000, end=8000))
-            found = Rows(hunt).old(candidate(word))
+            setattr(scope, "evidence", types.SimpleNamespace(images=images, filled=1000, window=8000, end=8000))
+            found = Rows(scope).old(candidate(word))
             self.assertTrue(found)
             self.assertTrue(all(said in it.text("abcd") for it in found), [it.text("abcd") for it in found])
 
@@ -484,20 +484,20 @@ class OfRows(unittest.TestCase):
             return "reraid check", told
         plan = plan_of(("xfs", marks))
         near = Near("5:ls:none:128:2048:0,1,2,3", plan, Checked(0, 9, (Held("xfs", 0, 4, 4),)))
-        turned = Rows(hunt_of(answer(1280 * 4))).turned(near)
+        turned = Rows(scope_of(answer(1280 * 4))).turned(near)
         assert turned
         self.assertEqual(turned.row, 1280 * 4)
         self.assertEqual(turned.text(), "4 landmarks match before row 5120, and 4 from there on do not. A reshape may have stopped there, or "
                          "landmarks of an older array or file system follow")
         few = Near(near.word, plan, Checked(0, 9, (Held("xfs", 0, 6, 2),)))
-        self.assertIsNone(Rows(hunt_of(answer(1280 * 6))).turned(few))
+        self.assertIsNone(Rows(scope_of(answer(1280 * 6))).turned(few))
 
         def mixed(_: list[str], text: str) -> Answer:
             # Every other mark fits.
             before = [k for k in range(8) if 2048 + 1280 * k < int(text.split("end ")[1].split()[0])]
             fits = sum(k % 2 == 0 for k in before)
             return put(f"unsound 0 of 1\ngroup 0 xfs origin 0 fits {fits} misfits {len(before) - fits}\nfail\n")
-        self.assertIsNone(Rows(hunt_of(("reraid check", mixed))).turned(near))
+        self.assertIsNone(Rows(scope_of(("reraid check", mixed))).turned(near))
 
 
 class Tested(InFolder):
@@ -519,37 +519,37 @@ class Tested(InFolder):
         self.assertEqual(in_classes(Program(Standin(), ("a",), 5, 1), [five], 99), [five])
 
     def test_asked_once(self) -> None:
-        hunt = hunt_of(("reraid check", put("unsound 5 of 9\ngroup 0 xfs origin 0 fits 3 misfits 1\nfail\n")))
-        it = candidate(hunt=hunt)
+        scope = scope_of(("reraid check", put("unsound 5 of 9\ngroup 0 xfs origin 0 fits 3 misfits 1\nfail\n")))
+        it = candidate(scope=scope)
         tests = self.over()
         tests.ask(it, False)
         self.assertEqual((it.unsound, len(it.groups)), (None, 1))
         tests.ask(it, False)
         tests.ask(it)
         tests.ask(it)
-        self.assertEqual((it.unsound, cast(OfPlan, hunt).standin.count("reraid check")), (5, 2))
-        self.assertIn("window 1\n", cast(OfPlan, hunt).standin.asked[0][1])
-        tests.ask(candidate("near2:8:0:0,1", hunt=hunt_of()))
+        self.assertEqual((it.unsound, cast(OfPlan, scope).standin.count("reraid check")), (5, 2))
+        self.assertIn("window 1\n", cast(OfPlan, scope).standin.asked[0][1])
+        tests.ask(candidate("near2:8:0:0,1", scope=scope_of()))
 
     def test_begins(self) -> None:
         check = ("reraid check", put("unsound 0 of 1\ngroup 0 xfs origin 8 fits 3 misfits 0\npass\n"))
         for data, told in ((b"XFSB", True), (bytes(8 * SECTOR) + b"XFSB", True), (bytes(9 * SECTOR) + b"XFSB", False)):
-            self.assertEqual(self.over(("reraid write", Answer(0, data))).begins(candidate(hunt=hunt_of(check))), told)
+            self.assertEqual(self.over(("reraid write", Answer(0, data))).begins(candidate(scope=scope_of(check))), told)
 
     def test_begins_with_copies_that_are_far(self) -> None:
         """What far copies begin with is read by the end with which they were asked for; of the command's output so much is taken."""
         tests = self.over(("reraid mirrorwrite", Answer(0, b"XFSB")))
-        it = candidate("far2:8:0:0,1", hunt=hunt_of())
+        it = candidate("far2:8:0:0,1", scope=scope_of())
         it.step = dataclasses.replace(it.step, copied=Copied((NEAR_2,), 2, end=77))
         self.assertTrue(tests.begins(it))
         self.assertIn("end=77", cast(Standin, tests.commands).asked[0][0])
 
     def test_read(self) -> None:
         check = ("reraid check", put("unsound 0 of 1\ngroup 0 xfs origin 8 fits 3 misfits 0\npass\n"))
-        it = self.over(("reraid write", Answer(10))).read(candidate(hunt=hunt_of(check)))
+        it = self.over(("reraid write", Answer(10))).read(candidate(scope=scope_of(check)))
         self.assertEqual((it.found.text(), it.score), ("nothing recognized; no known files; its volume could not be written", Score.NOTHING))
         with mock.patch("os.truncate", side_effect=OSError(28, "No space left on device")):
-            it = self.over(("reraid write", Answer(0))).read(candidate(hunt=hunt_of(check)))
+            it = self.over(("reraid write", Answer(0))).read(candidate(scope=scope_of(check)))
         self.assertEqual(it.found.notes, ["its volume could not be read: No space left on device"])
 
     def test_how_much_is_lost(self) -> None:
@@ -567,8 +567,8 @@ class Tested(InFolder):
     def test_doubtful_ones_are_put_off(self) -> None:
         def told(answered: list[str], _: str) -> Answer:
             return put("unsound 9 of 9\ngroup 0 xfs origin 0 fits 1 misfits 2\nfail\n" if "1,0,2" in answered[2] else "unsound 9 of 9\nfail\n")
-        hunt = hunt_of(("reraid check", told))
-        some = [candidate(text, hunt=hunt) for text in ("6:ls:by-data:8:0:0,1,2,3", "6:ls:by-data:8:0:1,0,2,3")]
+        scope = scope_of(("reraid check", told))
+        some = [candidate(text, scope=scope) for text in ("6:ls:by-data:8:0:0,1,2,3", "6:ls:by-data:8:0:1,0,2,3")]
         tests = self.over()
         self.assertEqual(tests.without_doubtful(some), some)
         for it in some:
@@ -587,7 +587,7 @@ class Tested(InFolder):
         self.assertEqual((tests.test(some), len(tests.put_off)), ([], 1025))
 
     def test_those_that_begin_with_something_first(self) -> None:
-        some = [candidate(f"5:ls:none:8:{k}:0,1,2", hunt=hunt_of(("reraid check", put("unsound 0 of 9\npass\n")))) for k in range(9)]
+        some = [candidate(f"5:ls:none:8:{k}:0,1,2", scope=scope_of(("reraid check", put("unsound 0 of 9\npass\n")))) for k in range(9)]
 
         def data(answered: list[str], _: str) -> Answer:
             return Answer(0, b"XFSB" if ":5:" in answered[2] else b"none")
@@ -625,7 +625,7 @@ class Tested(InFolder):
 
     def test_encrypted_ones_are_enough(self) -> None:
         """Where some of many begin with the head of an encrypted volume the others, which begin with nothing known, are not looked at."""
-        some = [candidate(f"5:ls:none:8:{k}:0,1,2", hunt=hunt_of(("reraid check", put("unsound 0 of 9\npass\n")))) for k in range(9)]
+        some = [candidate(f"5:ls:none:8:{k}:0,1,2", scope=scope_of(("reraid check", put("unsound 0 of 9\npass\n")))) for k in range(9)]
         tests = self.over(("reraid write", lambda words, _: Answer(0, b"LUKS\xba\xbe" if ":5:" in words[2] else b"none")),
                           ("reraid classes", put("".join(f"{k} x\n" for k in range(8)) + "classes 8 of 8\n")))
         tests.late = True
@@ -639,7 +639,7 @@ class Tested(InFolder):
     def test_images_that_make_rows_unsound(self) -> None:
         def told(answered: list[str], _: str) -> Answer:
             return put(f"unsound {2 if '-,1,2' in answered[2] else 5 if '0,-,2' in answered[2] else 9} of 9\nfail\n")
-        it = candidate("6:ls:by-data:8:0:0,1,2,3", hunt=hunt_of(("reraid check", told)), unsound=9)
+        it = candidate("6:ls:by-data:8:0:0,1,2,3", scope=scope_of(("reraid check", told)), unsound=9)
         self.assertEqual(self.over().left_out(it), [frozenset({0, 1})])
         self.assertIn("9 rows inconsistent, 7 because of image 0, 4 because of image 1", self.report.text)
         self.assertEqual(self.over().left_out(candidate(unsound=9)), [frozenset({image}) for image in range(3)])
@@ -648,7 +648,7 @@ class Tested(InFolder):
         """What has no unsound row without an image is kept, also where no more files are whole then."""
         def told(answered: list[str], _: str) -> Answer:
             return put(f"unsound {0 if '0,1,-,3' in answered[2] else 9} of 9\nfail\n")
-        it = candidate("6:ls:by-data:8:0:0,1,2,3", whole(), hunt=hunt_of(("reraid check", told)), unsound=9)
+        it = candidate("6:ls:by-data:8:0:0,1,2,3", whole(), scope=scope_of(("reraid check", told)), unsound=9)
         tests = self.over()
 
         def read(one: Candidate, _files: bool = True) -> Candidate:

@@ -13,7 +13,7 @@ from reraid_try.options import Options
 from reraid_try.policy import mirrors, plain
 from reraid_try.policy.evident import Evident
 from reraid_try.policy.mirrors import Grouped
-from reraid_try.policy.plain import Aim, Span
+from reraid_try.policy.plain import Target, Span
 
 # Of a stripe over mirrors: images 0 and 3 are the same, 1 and 4 were, and the copy of 2 is missing.
 IMAGES = tuple(Image(f"{k}.img", k, 900, first=0, like=0 if k == 3 else None) for k in range(5))
@@ -22,15 +22,15 @@ OPTIONS = Options(("a",) * 5)
 
 
 class Halves(unittest.TestCase):
-    def halves(self, *families: Family, images: tuple[Image, ...] = IMAGES, span: Span = Span(0, 900), options: Options = OPTIONS) -> list[Aim]:
+    def halves(self, *families: Family, images: tuple[Image, ...] = IMAGES, span: Span = Span(0, 900), options: Options = OPTIONS) -> list[Target]:
         """What is tried."""
-        return plain.halves_aims(Told(tuple(map(Known, families)), (), True), images, span, options)
+        return plain.halves_targets(Told(tuple(map(Known, families)), (), True), images, span, options)
 
-    def test_aim(self) -> None:
+    def test_target(self) -> None:
         """All images, of which two are named."""
-        aim, = self.halves(STALE)
-        self.assertEqual((aim.images, aim.copied, aim.halves), ((0, 1, 2, 3, 4), True, ((1, 4),)))
-        self.assertEqual(aim.why, "images 1 and 4 hold the same in most rows: one may be an older state of the other, so each is left out in turn")
+        target, = self.halves(STALE)
+        self.assertEqual((target.images, target.copied, target.halves), ((0, 1, 2, 3, 4), True, ((1, 4),)))
+        self.assertEqual(target.why, "images 1 and 4 hold the same in most rows: one may be an older state of the other, so each is left out in turn")
 
     def test_none(self) -> None:
         """None of images that are the same, of three that are alike, of ties by parity, of few images, in a partition, or where RAID 10 is not asked
@@ -55,7 +55,7 @@ class Halves(unittest.TestCase):
             tried: list[tuple[int, int]] = []
             search: Any = types.SimpleNamespace(images=IMAGES, options=OPTIONS, tested=[])
 
-            def grouped(_hunt: Any, it: Grouped, counts: range) -> bool:
+            def grouped(_scope: Any, it: Grouped, counts: range) -> bool:
                 tried.append((1 if (1,) in it.groups else 4, counts[0]))
                 if tried[-1] == good:
                     search.tested.append(types.SimpleNamespace(score=Score.CHECKED))

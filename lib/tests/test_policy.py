@@ -1,4 +1,4 @@
-"""Shapes, relaxations, what is asked for, questions, hunts and mirrors."""
+"""Shapes, relaxations, what is asked for, questions, scopes and mirrors."""
 
 import dataclasses
 import unittest
@@ -14,7 +14,7 @@ from reraid_try.evidence.hints import Hint, Source, What
 from reraid_try.evidence.images import Image
 from reraid_try.options import Options
 from reraid_try.policy.relaxations import RelaxationKind
-from reraid_try.policy.hunt import Hunt
+from reraid_try.policy.scope import Scope
 from reraid_try.policy import relaxations, mirrors
 from reraid_try.policy.mirrors import Mirrors, groupings, is_striped, there
 from reraid_try.policy.plans import Asking
@@ -506,36 +506,36 @@ class Asked(unittest.TestCase):
             self.assertFalse(questions.far_before(0, 2048, Shape("5", 3)))
 
 
-class Hunts(InFolder):
-    def hunt(self, answer: Reply, groups: tuple[Marked, ...] = (XFS, EXT), pairs: Pairs | None = None) -> tuple[Hunt, Standin]:
-        """A hunt over three images of which reraid says this."""
+class Scopes(InFolder):
+    def scope(self, answer: Reply, groups: tuple[Marked, ...] = (XFS, EXT), pairs: Pairs | None = None) -> tuple[Scope, Standin]:
+        """A scope over three images of which reraid says this."""
         names = [self.file(f"{k}.img", b"x" * 8000 * SECTOR) for k in range(3)]
         text = plan_of(*groups, lengths=(8000,) * 3).text()
         standin = Standin(("reraid survey", put(text)), ("reraid list", answer))
         seen = [Image(name, k, 8000) for k, name in enumerate(names)]
-        return Hunt(Options(tuple(names)), standin, seen, nobody, pairs), standin
+        return Scope(Options(tuple(names)), standin, seen, nobody, pairs), standin
 
     def test_what_is_asked_in_each_step(self) -> None:
         """What is known stands in each request, also in those of relaxations."""
-        hunt, standin = self.hunt(lambda *_: put("next 9 of 9\n"))
-        known = Hunt(Options(hunt.program.names), standin, hunt.evidence.images, nobody, asked={"chunks": "64", "window": 500})
+        scope, standin = self.scope(lambda *_: put("next 9 of 9\n"))
+        known = Scope(Options(scope.program.names), standin, scope.evidence.images, nobody, asked={"chunks": "64", "window": 500})
         for count in (0, 1):
             _, request = next(known.ways(Shape("0", 3), Stage((), count)))
             self.assertEqual((request.get("chunks"), request.get("window")), ("64", "500"))
 
     def test_listed_once(self) -> None:
-        hunt, _ = self.hunt(lambda *_: put("next 9 of 9\n"))
-        request = hunt.asking.request(Shape("5", 3))
-        self.assertIsNotNone(hunt.to_list(Shape("5", 3), request))
-        self.assertIsNone(hunt.to_list(Shape("5", 3), request))
+        scope, _ = self.scope(lambda *_: put("next 9 of 9\n"))
+        request = scope.asking.request(Shape("5", 3))
+        self.assertIsNotNone(scope.to_list(Shape("5", 3), request))
+        self.assertIsNone(scope.to_list(Shape("5", 3), request))
 
     def test_nothing_that_rules_sets_out(self) -> None:
-        hunt, _ = self.hunt(lambda *_: put(""))
-        bare = hunt.asking.bare(Shape("5,6", 4, 1))
-        self.assertIsNone(hunt.to_list(Shape("5,6", 4, 1), bare))
-        last = hunt.to_list(Shape("5,6", 4, 1), bare, last=True)
+        scope, _ = self.scope(lambda *_: put(""))
+        bare = scope.asking.bare(Shape("5,6", 4, 1))
+        self.assertIsNone(scope.to_list(Shape("5,6", 4, 1), bare))
+        last = scope.to_list(Shape("5,6", 4, 1), bare, last=True)
         self.assertEqual(last and last.values["levels"], "5,6")
-        none, _ = self.hunt(lambda *_: put(""), ())
+        none, _ = self.scope(lambda *_: put(""), ())
         self.assertIsNone(none.to_list(Shape("0", 3), none.asking.request(Shape("0", 3))))
         plan = none.to_list(Shape("5,6", 4, 1), none.asking.request(Shape("5,6", 4, 1)))
         self.assertEqual(plan and plan.values["levels"], "6")
@@ -543,23 +543,23 @@ class Hunts(InFolder):
     def test_a_step_is_neither_hasty_nor_asks_for_all(self) -> None:
         """A stage has all relaxations but those for what is mostly wrong, where nothing else is said."""
         stage = Stage((Shape("5", 4, 1),), 1)
-        hunt, _ = self.hunt(lambda *_: put("next 9 of 9\n"))
-        names = [relaxation.name for relaxation in hunt.asking.relaxations(stage.shapes[0], stage.every, stage.quick)]
+        scope, _ = self.scope(lambda *_: put("next 9 of 9\n"))
+        names = [relaxation.name for relaxation in scope.asking.relaxations(stage.shapes[0], stage.every, stage.quick)]
         self.assertEqual((any("each image its own" in name for name in names), stage.every), (True, False))
-        self.assertFalse(any("each image its own" in relaxation.name for relaxation in hunt.asking.relaxations(stage.shapes[0], quick=True)))
+        self.assertFalse(any("each image its own" in relaxation.name for relaxation in scope.asking.relaxations(stage.shapes[0], quick=True)))
 
     def test_passed_over_is_counted(self) -> None:
-        hunt, _ = self.hunt(lambda *_: put("next 9 of 9\n"))
-        plan = hunt.to_list(Shape("5", 3), hunt.asking.request(Shape("5", 3)))
+        scope, _ = self.scope(lambda *_: put("next 9 of 9\n"))
+        plan = scope.to_list(Shape("5", 3), scope.asking.request(Shape("5", 3)))
         assert plan
-        self.assertEqual((hunt.may_list(plan, Shape("5", 3)), hunt.passed_over), (False, 1))
+        self.assertEqual((scope.may_list(plan, Shape("5", 3)), scope.passed_over), (False, 1))
 
     def test_ways(self) -> None:
-        hunt, _ = self.hunt(lambda *_: put("next 9 of 9\n"))
-        self.assertEqual([chosen for chosen, _ in hunt.ways(Shape("0", 3), Stage((), 0))], [()])
-        names = [chosen[0].name for chosen, _ in hunt.ways(Shape("5", 3), Stage((), 1))]
+        scope, _ = self.scope(lambda *_: put("next 9 of 9\n"))
+        self.assertEqual([chosen for chosen, _ in scope.ways(Shape("0", 3), Stage((), 0))], [()])
+        names = [chosen[0].name for chosen, _ in scope.ways(Shape("5", 3), Stage((), 1))]
         self.assertIn("end before a superblock", names)
-        allows, _ = self.hunt(lambda *_: put("1 5:la:none:8:0:0,1,2\nnext 2 of 9\n"))
+        allows, _ = self.scope(lambda *_: put("1 5:la:none:8:0:0,1,2\nnext 2 of 9\n"))
         names = [chosen[0].name for chosen, _ in allows.ways(Shape("5", 3), Stage((), 1))]
         self.assertNotIn("end before a superblock", names)
         self.assertIn("8 mismatches", names)
@@ -567,53 +567,53 @@ class Hunts(InFolder):
 
     def test_ways_of_one_kind(self) -> None:
         """Of parity that stays alone: one way where there is parity, at any offset, and none else. Of what NTFS needs: where there is one."""
-        hunt, _ = self.hunt(lambda *_: put("next 9 of 9\n"))
+        scope, _ = self.scope(lambda *_: put("next 9 of 9\n"))
         none: list[str] = []
         for shape, wanted in ((Shape("5", 4, 1), ["delays 16"]), (Shape("6", 3), ["delays 16"]), (Shape("0", 3), none)):
-            with mock.patch.object(hunt.asking, "request", wraps=hunt.asking.request) as asked:
-                found = list(hunt.ways(shape, delayed(shape)))
+            with mock.patch.object(scope.asking, "request", wraps=scope.asking.request) as asked:
+                found = list(scope.ways(shape, delayed(shape)))
             self.assertEqual([relaxation.name for chosen, _ in found for relaxation in chosen], wanted)
             self.assertEqual([request.get("delays") for _, request in found], ["16"] * len(wanted))
             self.assertEqual(asked.call_args_list[0][0], (shape, True))
-        for plan, wanted in ((plan_of(NTFS), ["file records of number 0 left out"]), (hunt.plan, none)):
-            with mock.patch.object(hunt.asking, "evidence", dataclasses.replace(hunt.evidence, plan=plan)):
-                found = list(hunt.ways(Shape("0", 3), of_kinds(Shape("0", 3))))
+        for plan, wanted in ((plan_of(NTFS), ["file records of number 0 left out"]), (scope.plan, none)):
+            with mock.patch.object(scope.asking, "evidence", dataclasses.replace(scope.evidence, plan=plan)):
+                found = list(scope.ways(Shape("0", 3), of_kinds(Shape("0", 3))))
             self.assertEqual([relaxation.name for chosen, _ in found for relaxation in chosen], wanted)
 
     def test_ways_without_parity(self) -> None:
         """Where parity tells nothing it is not asked which offsets need a relaxation."""
-        hunt, standin = self.hunt(lambda *_: put("next 9 of 9\n"))
-        found = [chosen[0].relaxes for chosen, _ in hunt.ways(Shape("0", 3), Stage((), 1))]
+        scope, standin = self.scope(lambda *_: put("next 9 of 9\n"))
+        found = [chosen[0].relaxes for chosen, _ in scope.ways(Shape("0", 3), Stage((), 1))]
         self.assertEqual((RelaxationKind.END in found, standin.count("reraid list")), (True, 0))
 
     def test_listing_is_told(self) -> None:
-        hunt, standin = self.hunt(lambda words, _: put("", 6, "reraid: cursor 1 is past 0") if f"from={LAST}" in words else put("next 9 of 9\n"))
-        request = dataclasses.replace(hunt.asking.request(Shape("6", 3)), out=(1,))
-        plan = hunt.to_list(Shape("6", 3), request)
+        scope, standin = self.scope(lambda words, _: put("", 6, "reraid: cursor 1 is past 0") if f"from={LAST}" in words else put("next 9 of 9\n"))
+        request = dataclasses.replace(scope.asking.request(Shape("6", 3)), out=(1,))
+        plan = scope.to_list(Shape("6", 3), request)
         assert plan
-        self.assertEqual(hunt.listing(Shape("6", 3), request, plan).total, 0)
+        self.assertEqual(scope.listing(Shape("6", 3), request, plan).total, 0)
         self.assertRegex(standin.told[0], r"^reraid survey .* \| awk .*n==2.* \| reraid list size=20000 -- ")
 
     def test_listed_again_where_its_time_was_up(self) -> None:
         def answer(words: list[str], _: str) -> Answer:
             return put("", 6, "reraid: cursor 1 is past 9") if f"from={LAST}" in words else put("1 5:la:none:8:0:0,1,2\n", None)
         for most, again in ((20000, True), (1, False)):
-            hunt, _ = self.hunt(answer)
-            shape, request = Shape("5", 3), hunt.asking.request(Shape("5", 3))
-            plan = hunt.to_list(shape, request)
+            scope, _ = self.scope(answer)
+            shape, request = Shape("5", 3), scope.asking.request(Shape("5", 3))
+            plan = scope.to_list(shape, request)
             assert plan
-            with mock.patch("reraid_try.policy.hunt.MOST_LINES", most):
-                self.assertFalse(hunt.listing(shape, request, plan).whole)
-            self.assertEqual((hunt.cut_short, hunt.to_list(shape, request)), ({plan.text()} if again else set(), None))
-            hunt.ask_again()
-            self.assertEqual((hunt.cut_short, hunt.to_list(shape, request)), (set(), plan if again else None))
+            with mock.patch("reraid_try.policy.scope.MOST_LINES", most):
+                self.assertFalse(scope.listing(shape, request, plan).whole)
+            self.assertEqual((scope.cut_short, scope.to_list(shape, request)), ({plan.text()} if again else set(), None))
+            scope.ask_again()
+            self.assertEqual((scope.cut_short, scope.to_list(shape, request)), (set(), plan if again else None))
 
     def test_offsets_with_little_behind_them(self) -> None:
         """They are asked for with nothing relaxed, and where every one is."""
-        hunt, _ = self.hunt(lambda *_: put("next 9 of 9\n"))
+        scope, _ = self.scope(lambda *_: put("next 9 of 9\n"))
         for count, every, wanted in ((0, False, True), (1, False, False), (1, True, True)):
-            with mock.patch.object(hunt.asking, "request", wraps=hunt.asking.request) as asked:
-                next(hunt.ways(Shape("0", 3), Stage((), count, every)))
+            with mock.patch.object(scope.asking, "request", wraps=scope.asking.request) as asked:
+                next(scope.ways(Shape("0", 3), Stage((), count, every)))
             self.assertEqual(asked.call_args_list[0][0], (Shape("0", 3), wanted))
 
     def test_zeros_are_asked_of_many_sets(self) -> None:
@@ -624,12 +624,12 @@ class Hunts(InFolder):
 
             def answer(words: list[str], _: str, listed: str = listed) -> Answer:
                 return put("", 6, "reraid: cursor 1 is past 84") if f"from={LAST}" in words else put(listed + "next 84 of 84\n")
-            hunt, _ = self.hunt(answer)
+            scope, _ = self.scope(answer)
             places = mock.Mock(allowed=lambda words: [it.offset == 0 for it in words])
-            hunt.ask_places = ask = mock.Mock(return_value=places)
-            hunt.places = {Shape("5", 3): places} if known else {}
+            scope.ask_places = ask = mock.Mock(return_value=places)
+            scope.places = {Shape("5", 3): places} if known else {}
             for _ in range(2):
-                found = hunt.listing(Shape("5", 3), BASE, hunt.plan)
+                found = scope.listing(Shape("5", 3), BASE, scope.plan)
                 self.assertEqual(len(found.sets), allowed)
             self.assertEqual(ask.call_args_list, [mock.call(Shape("5", 3))] * asked)
             left_out = count - allowed
@@ -640,42 +640,43 @@ class Hunts(InFolder):
         def answer(words: list[str], _: str) -> Answer:
             late = Answer(None, b"1 5:la:none:8:0:0,1,2\n2 5:la:none:8:8:0,1,2\n")
             return put("", 6, "reraid: cursor 1 is past 84") if f"from={LAST}" in words else late
-        hunt, _ = self.hunt(answer)
-        hunt.places = {Shape("5", 3): mock.Mock(allowed=lambda words: [it.offset == 0 for it in words])}
+        scope, _ = self.scope(answer)
+        scope.places = {Shape("5", 3): mock.Mock(allowed=lambda words: [it.offset == 0 for it in words])}
         note = "timed out after 60 s, before all were tested; 1 more contradict rows of zeros"
-        self.assertEqual(hunt.listing(Shape("5", 3), BASE, hunt.plan).note, note)
+        self.assertEqual(scope.listing(Shape("5", 3), BASE, scope.plan).note, note)
 
     def test_words(self) -> None:
-        hunt, _ = self.hunt(lambda *_: put(""))
-        hunt.evidence = dataclasses.replace(hunt.evidence, images=tuple(dataclasses.replace(it, number=it.number + 4) for it in hunt.evidence.images))
-        self.assertEqual([hunt.word(text).text for text in ("5:la:none:8:7+0+7:2,0,1", "5:la:none:8:7:2,-,1")],
+        scope, _ = self.scope(lambda *_: put(""))
+        images = tuple(dataclasses.replace(it, number=it.number + 4) for it in scope.evidence.images)
+        scope.evidence = dataclasses.replace(scope.evidence, images=images)
+        self.assertEqual([scope.word(text).text for text in ("5:la:none:8:7+0+7:2,0,1", "5:la:none:8:7:2,-,1")],
                          ["5:la:none:8:7+0+7:2,0,1", "5:la:none:8:7:6,-,5"])
-        hunt, _ = self.hunt(lambda *_: put(""))
-        self.assertEqual(hunt.word("5:la:none:8:7+7+7:0,1,2").text, "5:la:none:8:7:0,1,2")
-        pairs, _ = self.hunt(lambda *_: put(""), pairs=Pairs(((5,), (), (4,)), (2048,)))
+        scope, _ = self.scope(lambda *_: put(""))
+        self.assertEqual(scope.word("5:la:none:8:7+7+7:0,1,2").text, "5:la:none:8:7:0,1,2")
+        pairs, _ = self.scope(lambda *_: put(""), pairs=Pairs(((5,), (), (4,)), (2048,)))
         self.assertEqual(pairs.word("0:plain:none:8:2048:2,0,1").text, "near2:8:2048:2,4,0,5,1,-")
-        threes, _ = self.hunt(lambda *_: put(""), pairs=Pairs(((5, 6), (), (4,)), (2048,), copies=3))
+        threes, _ = self.scope(lambda *_: put(""), pairs=Pairs(((5, 6), (), (4,)), (2048,), copies=3))
         self.assertEqual(threes.word("0:plain:none:8:2048:2,0,1").text, "near3:8:2048:2,4,-,0,5,6,1,-,-")
 
     def test_checked_by_all_groups(self) -> None:
-        hunt, _ = self.hunt(lambda *_: put(""))
-        plan = hunt.checked_by(Step(Shape("5", 3), (), hunt.asking.bare(Shape("5", 3))))
+        scope, _ = self.scope(lambda *_: put(""))
+        plan = scope.checked_by(Step(Shape("5", 3), (), scope.asking.bare(Shape("5", 3))))
         self.assertEqual(plan and len(plan.groups), 2)
-        self.assertIsNone(hunt.checked_by(Step(Shape("10", 4))))
+        self.assertIsNone(scope.checked_by(Step(Shape("10", 4))))
 
     def test_checked_over_the_whole_window(self) -> None:
         """What was listed by half of the window is checked over all of it."""
-        hunt, _ = self.hunt(lambda *_: put(""))
-        half = relaxations.half_window(hunt.plan)
-        request = half.of(hunt.asking.request(Shape("5", 3)))
-        plan = hunt.checked_by(Step(Shape("5", 3), (half,), request))
-        self.assertEqual((2 * request.number("window"), plan and int(plan.values["window"])), (hunt.evidence.window, hunt.evidence.window))
+        scope, _ = self.scope(lambda *_: put(""))
+        half = relaxations.half_window(scope.plan)
+        request = half.of(scope.asking.request(Shape("5", 3)))
+        plan = scope.checked_by(Step(Shape("5", 3), (half,), request))
+        self.assertEqual((2 * request.number("window"), plan and int(plan.values["window"])), (scope.evidence.window, scope.evidence.window))
 
     def test_mirrors(self) -> None:
-        hunt, _ = self.hunt(lambda *_: put(""))
+        scope, _ = self.scope(lambda *_: put(""))
         standin = Standin(("reraid mirrors", put("5 near2:8:2048:0,1,2,-\n7 near2:8:4096:1,0,-,2\nnext 9 of 9\n")))
-        hunt.program.commands = standin
-        listing = Mirrors(hunt, standin).listing(TWO)
+        scope.program.commands = standin
+        listing = Mirrors(scope, standin).listing(TWO)
         self.assertEqual((len(listing.sets), listing.total, listing.whole), (2, 9, True))
         self.assertEqual(standin.count("reraid mirrors"), 1)
         found = groupings(listing.sets)
@@ -720,17 +721,17 @@ class Hunts(InFolder):
         self.assertEqual(told(32673), [])
 
     def test_far_copies_end_where_their_distance_is_told(self) -> None:
-        hunt, _ = self.hunt(lambda *_: put(""))
+        scope, _ = self.scope(lambda *_: put(""))
         standin = Standin(("reraid mirrors", put("next 9 of 9\n")))
-        hunt.program.commands = standin
-        Mirrors(hunt, standin).listing(Copied((Copying("far", 2),), 3, 0, (8,), 67392, (2048,)))
+        scope.program.commands = standin
+        Mirrors(scope, standin).listing(Copied((Copying("far", 2),), 3, 0, (8,), 67392, (2048,)))
         words = standin.asked[0][0]
         self.assertTrue({"layouts=far2", "end=67392", "offsets=2048", "chunks=8"} <= set(words))
 
     def test_mirrors_that_were_late(self) -> None:
-        hunt, _ = self.hunt(lambda *_: put(""))
-        hunt.program.commands = Standin(("reraid mirrors", put("5 near2:8:2048:0,1,2,-\n", None)))
-        listing = Mirrors(hunt, hunt.program.commands).listing(TWO)
+        scope, _ = self.scope(lambda *_: put(""))
+        scope.program.commands = Standin(("reraid mirrors", put("5 near2:8:2048:0,1,2,-\n", None)))
+        listing = Mirrors(scope, scope.program.commands).listing(TWO)
         self.assertEqual((len(listing.sets), listing.whole, listing.note), (1, False, "timed out after 60 s, before all were tested"))
 
     def test_pairings_of_none(self) -> None:

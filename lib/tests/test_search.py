@@ -186,10 +186,10 @@ class Runs(InFolder):
         search = self.search()
         search.tests = cast(Any, types.SimpleNamespace(test=lambda _: [], without_damaged=lambda _: [], tell=None,
                                                        put_off=[types.SimpleNamespace(word=read_word(TRUE))]))
-        hunt = cast(Any, types.SimpleNamespace(evidence=types.SimpleNamespace(pairs=None)))
+        scope = cast(Any, types.SimpleNamespace(evidence=types.SimpleNamespace(pairs=None)))
         for chosen, known in (((relaxations.told("no landmarks", RelaxationKind.BARE),), set()), ((), {TRUE})):
             step = Step(Shape("5", 3), chosen)
-            search.take(hunt, step, [Ranked(3, TRUE)], lambda it: (read_word(it.text), read_word(it.text)))
+            search.take(scope, step, [Ranked(3, TRUE)], lambda it: (read_word(it.text), read_word(it.text)))
             self.assertEqual(search.known, known)
 
     def test_stopped_in_the_midst(self) -> None:

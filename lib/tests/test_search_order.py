@@ -49,8 +49,8 @@ def said(it: Search) -> list[str]:
     return cast(Told, it.report).lines
 
 
-def hunt(shapes: Any = None, groups: bool = True, **values: Any) -> Any:
-    """What stands for a hunt."""
+def scope(shapes: Any = None, groups: bool = True, **values: Any) -> Any:
+    """What stands for a scope."""
     plan = plan_of(XFS, EXT) if groups else plan_of()
     return types.SimpleNamespace(shapes=shapes, plan=plan, **values)
 
@@ -112,7 +112,7 @@ class Runs(unittest.TestCase):
         for solved, groups, more, wanted in ((True, True, False, ["look"]), (False, True, True, ["look", "evidence", "all"]),
                                              (False, False, False, ["look", "evidence", "all"]), (False, False, True, ["look", "evidence"])):
             it, done = search(), list[str]()
-            evident = types.SimpleNamespace(run=lambda solved=solved: solved, hunt=lambda groups=groups: hunt(groups=groups), told=None)
+            evident = types.SimpleNamespace(run=lambda solved=solved: solved, scope=lambda groups=groups: scope(groups=groups), told=None)
             with mock.patch("reraid_try.policy.search.Evident", lambda _, evident=evident: evident), \
                     mock.patch("reraid_try.policy.search.Tests"), \
                     mock.patch.multiple(it, look=lambda done=done: done.append("look"), answered=lambda _: False, look_for_fills=lambda: None), \
@@ -133,11 +133,11 @@ class Runs(unittest.TestCase):
             self.assertEqual(answers.call_count, asked)
 
     def test_rows_of_the_best(self) -> None:
-        """Of the candidates that are said in words it is asked in which rows parity holds, and beside the images of their hunts those that ties name
+        """Of the candidates that are said in words it is asked in which rows parity holds, and beside the images of their scopes those that ties name
         as old."""
         it = search(5)
         images = [types.SimpleNamespace(number=number) for number in (0, 1, 3)]
-        best: Any = types.SimpleNamespace(hunt=types.SimpleNamespace(evidence=types.SimpleNamespace(images=images)))
+        best: Any = types.SimpleNamespace(scope=types.SimpleNamespace(evidence=types.SimpleNamespace(images=images)))
         it.stale = {3, 2}
         old = types.SimpleNamespace(text=lambda names: f"{names[2]} is old")
         with mock.patch("reraid_try.policy.search.Rows") as made, mock.patch.object(it, "best_told", return_value=[(0, best)]):
@@ -157,7 +157,7 @@ class Runs(unittest.TestCase):
     def test_refused_diagnosis(self) -> None:
         """Its line is said, and the run goes on."""
         it = search()
-        it.hunt = hunt()
+        it.scope = scope()
         with mock.patch("reraid_try.policy.search.Diagnosis") as made:
             it.diagnose(lambda _: None)
             it.diagnose(mock.Mock(side_effect=Refused("reraid: no")))
@@ -181,24 +181,24 @@ class Steps(unittest.TestCase):
         tiers = Tiers((FIVE, NONE), (SIX, FIVE), (LOST,))
         if alike:
             it.images = (*it.images[1:], dataclasses.replace(it.images[0], like=1))
-        it.hunt = hunt(types.SimpleNamespace(tiers=lambda: tiers, exact=lambda: list(exact)), program=types.SimpleNamespace(seconds=60),
-                       ask_again=lambda: done.append(self.again))
+        it.scope = scope(types.SimpleNamespace(tiers=lambda: tiers, exact=lambda: list(exact)), program=types.SimpleNamespace(seconds=60),
+                         ask_again=lambda: done.append(self.again))
         self.short = 0
 
         def keep(what: str) -> bool:
             done.append(what)
-            self.assertIn(it.hunt.program.seconds, (60, 10))
-            self.short += it.hunt.program.seconds == 10
+            self.assertIn(it.scope.program.seconds, (60, 10))
+            self.short += it.scope.program.seconds == 10
             return what == ends
 
-        def stage(what: Stage, _hunt: Any = None) -> bool:
+        def stage(what: Stage, _scope: Any = None) -> bool:
             levels = "+".join(f"{shape.levels}.{shape.missing}" for shape in what.shapes)
             count = what.only.__name__ if what.only else what.count
             return keep(f"{levels or 'none'} {count}" + " quick" * what.quick + " every" * (what.every and what.only is None))
         with mock.patch.multiple(it, take_stage=stage, best=lambda: best(done), before_damage=lambda shapes: keep(f"damage {len(shapes)}"),
                                  diagnose=lambda _: done.append("diagnosis"), near_mirrors=lambda _, missing: keep(f"mirrors {missing}")):
             found = bool(getattr(it, run)())
-        self.assertEqual(it.hunt.program.seconds, 60)
+        self.assertEqual(it.scope.program.seconds, 60)
         return found, done
 
     def test_first_steps(self) -> None:
@@ -251,10 +251,10 @@ class Steps(unittest.TestCase):
         it, tried = search(), list[tuple[Shape, int]]()
         ways = {FIVE: [((), BASE)], SIX: [((), BASE.having(window=1)), ((), BASE.having(window=2))]}
 
-        def attempt(_hunt: Any, shape: Shape, _chosen: Any, request: Any) -> bool:
+        def attempt(_scope: Any, shape: Shape, _chosen: Any, request: Any) -> bool:
             tried.append((shape, request.number("window")))
             return bool(request.number("window") == 1)
-        it.hunt = cast(Any, types.SimpleNamespace(ways=lambda shape, *_: ways[shape]))
+        it.scope = cast(Any, types.SimpleNamespace(ways=lambda shape, *_: ways[shape]))
         other = cast(Any, types.SimpleNamespace(ways=lambda *_: [((), BASE.having(window=9))]))
         with mock.patch.object(it, "attempt", attempt):
             self.assertTrue(it.take_stage(Stage((FIVE, SIX), 1)))
@@ -267,10 +267,10 @@ class Steps(unittest.TestCase):
         for groups, enough, wanted in ((True, None, [FIVE, SIX]), (False, None, [FIVE, NONE, SIX, LOST]), (False, NONE, [FIVE, NONE])):
             it, tried = search(), list[Shape]()
 
-            def bare(_hunt: Any, shape: Shape, tried: list[Shape] = tried, enough: Shape | None = enough) -> bool:
+            def bare(_scope: Any, shape: Shape, tried: list[Shape] = tried, enough: Shape | None = enough) -> bool:
                 tried.append(shape)
                 return shape == enough
-            it.hunt = hunt(types.SimpleNamespace(tiers=lambda: Tiers((FIVE, NONE), (SIX,), (LOST,))), groups=groups)
+            it.scope = scope(types.SimpleNamespace(tiers=lambda: Tiers((FIVE, NONE), (SIX,), (LOST,))), groups=groups)
             with mock.patch.object(it, "attempt_bare", bare):
                 it.without_landmarks()
             self.assertEqual(tried, wanted)
@@ -283,14 +283,14 @@ class Steps(unittest.TestCase):
                                             (False, True, Score.NOTHING, False), (False, False, Score.KNOWN, False)):
             it, kept = search(), list[Candidate]()
             it.tested = [cast(Any, tested(score, "5:la:none:8:0:0,1,2"))]
-            it.hunt = hunt(passed_over=2)
+            it.scope = scope(passed_over=2)
             it.tests = cast(Any, types.SimpleNamespace(put_off=[one, again, other], test_late=lambda: [one]))
             with mock.patch.multiple(it, first_steps=lambda first=first: first, further_steps=lambda further=further: further,
                                      keep=lambda found, kept=kept: kept.extend(found)):
                 it.try_all()
             self.assertEqual((kept, it.tests.put_off == [one]), ([one] * late, late))
             self.assertEqual(cast(Standin, it.commands).noted, ["# skipped 2 steps: landmarks by themselves, or parity by itself, allow no layout"])
-        it.hunt.passed_over = 0
+        it.scope.passed_over = 0
         with mock.patch.multiple(it, first_steps=lambda: True):
             it.try_all()
         self.assertEqual(len(cast(Standin, it.commands).noted), 1)
@@ -303,12 +303,12 @@ class Damage(unittest.TestCase):
         """Whether the search is at its end, and the steps, of which one may be enough."""
         it, done = search(), list[str]()
 
-        def attempt(_hunt: Any, shape: Shape, chosen: tuple[relaxations.Relaxation, ...], few: Any, tested_by: Any = None) -> bool:
+        def attempt(_scope: Any, shape: Shape, chosen: tuple[relaxations.Relaxation, ...], few: Any, tested_by: Any = None) -> bool:
             names = " and ".join(relaxation.name for relaxation in chosen)
             done.append(f"{shape.levels} {names}: {few.number('window')} {few.out} by {tested_by.number('window')}")
             return len(done) == ends
         asking = types.SimpleNamespace(first_rows=lambda _: BASE.having(window=65536), request=lambda _: BASE.having(window=90000))
-        it.hunt = hunt(groups=groups, asking=asking, evidence=types.SimpleNamespace(unread=unread))
+        it.scope = scope(groups=groups, asking=asking, evidence=types.SimpleNamespace(unread=unread))
         with mock.patch.object(it, "attempt", attempt):
             return it.before_damage((FIVE, NONE, SIX)), done
 
@@ -352,11 +352,11 @@ class Mirrored(unittest.TestCase):
         """Whether the search is at its end, and what was done with these sets."""
         it, done = search(), list[str]()
 
-        def taken(_hunt: Any, step: Step, sets: Sequence[Ranked], _words: Any) -> bool:
+        def taken(_scope: Any, step: Step, sets: Sequence[Ranked], _words: Any) -> bool:
             done.append(f"take {step.line()} {' '.join(one.text for one in sets)}")
             return take
 
-        def group(_hunt: Any, found: Any) -> bool:
+        def group(_scope: Any, found: Any) -> bool:
             done.append(f"groups {found.groups}")
             return grouped
         with mock.patch("reraid_try.policy.search.Mirrors") as made, mock.patch.multiple(it, take=taken, grouped=group):
@@ -384,7 +384,7 @@ class Attempts(unittest.TestCase):
 
     def attempt(self, plan: Any = "plan", may: bool = True, listing: Listing | Refused = Listing((), 9, True), last: bool = False,
                 tested_by: Any = BASE.having(window=7), **values: Any) -> tuple[bool, list[str], list[Step]]:
-        """What a step gives, what was asked, and what was taken, of a hunt that says this."""
+        """What a step gives, what was asked, and what was taken, of a scope that says this."""
         it, asked, taken = search(**values), list[str](), list[Step]()
 
         def listed(*_: Any) -> Listing:
@@ -393,7 +393,7 @@ class Attempts(unittest.TestCase):
                 raise listing
             return listing
 
-        def take(_hunt: Any, step: Step, *_: Any) -> bool:
+        def take(_scope: Any, step: Step, *_: Any) -> bool:
             taken.append(step)
             return True
 
@@ -484,13 +484,13 @@ class Seen(InFolder):
     def test_evidence(self) -> None:
         """The groups with their first and last marks, and the hints; that there are no landmarks."""
         it, hint = search(), Hint(What.OFFSET, 2048, Source.MARK, "a mark")
-        both = [hunt(groups=groups, evidence=types.SimpleNamespace(said=[hint])) for groups in (True, False)]
+        both = [scope(groups=groups, evidence=types.SimpleNamespace(said=[hint])) for groups in (True, False)]
         for one in both:
             it.say_evidence(one)
         self.assertEqual(said(it), ["landmark group 0 (xfs, 2 landmarks): sector 2048 of image 0 to 26624 of image 1",
                                     "landmark group 1 (ext, 1 landmark): sector 7426 of image 2", "hint: data offset 2048 sectors, from a mark",
                                     "no landmarks: only parity rules out layouts", "hint: data offset 2048 sectors, from a mark"])
-        self.assertEqual(it.hunts, both)
+        self.assertEqual(it.scopes, both)
 
     def test_groups_of_copies(self) -> None:
         """They are said, and searched as a RAID 0 of one image of each: with up to two things relaxed, and then without landmarks."""
@@ -500,14 +500,14 @@ class Seen(InFolder):
         for shapes, ends, wanted in (((NONE, FIVE), 9, [*stages, "bare 0"]), ((), 9, stages), ((NONE,), 2, stages[:2])):
             it, done = search(), list[str]()
 
-            def stage(what: Stage, _hunt: Any, done: list[str] = done, ends: int = ends) -> bool:
+            def stage(what: Stage, _scope: Any, done: list[str] = done, ends: int = ends) -> bool:
                 done.append(f"step {what.count}")
                 return len(done) == ends
 
-            def bare(_hunt: Any, shape: Shape, done: list[str] = done) -> bool:
+            def bare(_scope: Any, shape: Shape, done: list[str] = done) -> bool:
                 done.append(f"bare {shape.levels}")
                 return True
-            with mock.patch("reraid_try.policy.search.Hunt") as made, \
+            with mock.patch("reraid_try.policy.search.Scope") as made, \
                     mock.patch.multiple(it, take_stage=stage, attempt_bare=bare, say_evidence=lambda _, done=done: done.append("evidence")):
                 made.return_value.shapes.tiers.return_value = Tiers(rest=shapes)
                 self.assertEqual(it.grouped(cast(Any, over), grouped), bool(shapes))

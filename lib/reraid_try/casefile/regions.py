@@ -48,14 +48,14 @@ def regions(it: Candidate, jobs: int) -> list[Region]:
     if it.listed is None or request is None or it.word.is_mirrored or it.listed.spare < 1:
         return []
     word: Word = it.listed
-    hunt, end = it.hunt, min(image.sectors for image in it.hunt.evidence.images)
-    bare = dataclasses.replace(hunt.surveys.plan(request).bare().having(badrows=0), end=end)
+    scope, end = it.scope, min(image.sectors for image in it.scope.evidence.images)
+    bare = dataclasses.replace(scope.surveys.plan(request).bare().having(badrows=0), end=end)
     parts = cut(word, end)
     most = rows_of_each(len(parts))
 
     def ask(part: tuple[int, int]) -> Region:
         first, rows = part
-        told: Checked | None = hunt.program.check(moved(word, first).text, windowed(bare, min(rows, most)))
+        told: Checked | None = scope.program.check(moved(word, first).text, windowed(bare, min(rows, most)))
         return Region(first, rows, told.rows, told.unsound) if told else Region(first, rows)
     with concurrent.futures.ThreadPoolExecutor(jobs) as pool:
         return list(pool.map(ask, parts))

@@ -7,7 +7,7 @@ from typing import Optional
 from ..calls.formats import Held
 from ..calls.plans import Plan
 from ..calls.sets import Word
-from ..policy.hunt import Hunt
+from ..policy.scope import Scope
 from ..policy.steps import Step
 from .verdicts import Score, Verdict
 
@@ -31,7 +31,7 @@ class Inside:
 
 @dataclasses.dataclass
 class Candidate:
-    """A set that passed a step of a hunt. `word` is the simplest set of its volume; `listed` that which was listed, by the images of the hunt, None
+    """A set that passed a step of a scope. `word` is the simplest set of its volume; `listed` that which was listed, by the images of the scope, None
     for RAID 10 by its copies. `alike` has the other sets of its class, `groups` what `check` says of each group, `unsound` how many rows are
     unsound, None where that was not asked; `doubted` says that as much speaks against it for another reason, `left_most` that a group with most of
     the marks was left out, and does not hold, `rivalled` how another candidate contradicts it that has more for itself. `rows` says in which rows
@@ -42,7 +42,7 @@ class Candidate:
     word: Word
     rank: int
     step: Step
-    hunt: Hunt
+    scope: Scope
     listed: Word | None = None
     alike: list[str] = dataclasses.field(default_factory=list)
     groups: tuple[Held, ...] = ()
@@ -102,7 +102,7 @@ class Candidate:
         """At level 0 a file system is longer than the volume, and the images differ in length: the longer ones may go on in rows of fewer disks."""
         if self.word.level != "0" or not self.found.doubts or not any(finding.too_long for finding in self.found.findings):
             return False
-        return len({image.sectors for image in self.hunt.evidence.images}) > 1
+        return len({image.sectors for image in self.scope.evidence.images}) > 1
 
     @property
     def alike_said(self) -> str:
@@ -113,7 +113,7 @@ class Candidate:
     @property
     def mostly_unsound(self) -> bool:
         """Most of the filled rows are unsound, as far as was asked."""
-        return MOST_UNSOUND * (self.unsound or 0) > self.hunt.evidence.filled
+        return MOST_UNSOUND * (self.unsound or 0) > self.scope.evidence.filled
 
     @property
     def doubtful(self) -> bool:

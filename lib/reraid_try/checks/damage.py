@@ -27,7 +27,7 @@ def doubted(tested: Sequence[Candidate], mapped: bool) -> list[Candidate]:
 
 def blamed(candidate: Candidate, counts: Mapping[int, int]) -> list[int]:
     """The images without which fewer rows are unsound, that with the most first: `counts` has the unsound rows without each image, by its place in
-    the hunt."""
+    the scope."""
     return sorted((image for image, count in counts.items() if count < (candidate.unsound or 0)), key=lambda image: counts[image])
 
 
@@ -44,9 +44,9 @@ def is_better(candidate: Candidate, whole: Candidate) -> bool:
 
 
 def lesser(candidate: Candidate, images: frozenset[int]) -> Candidate:
-    """A candidate without these images, by their places in its hunt."""
-    listed, step, hunt = (candidate.listed or candidate.word).without(images), candidate.step, candidate.hunt
-    name = f"without {' and '.join(f'image {number}' for number in sorted(hunt.evidence.images[image].number for image in images))}"
+    """A candidate without these images, by their places in its scope."""
+    listed, step, scope = (candidate.listed or candidate.word).without(images), candidate.step, candidate.scope
+    name = f"without {' and '.join(f'image {number}' for number in sorted(scope.evidence.images[image].number for image in images))}"
     shape = dataclasses.replace(step.shape, missing=listed.lost)
     step = dataclasses.replace(step, shape=shape, relaxations=(*step.relaxations, relaxations.told(name, RelaxationKind.LEFT_OUT)))
-    return Candidate(simplest(hunt.word(listed.text)), candidate.rank, step, hunt, listed=listed, whole=candidate)
+    return Candidate(simplest(scope.word(listed.text)), candidate.rank, step, scope, listed=listed, whole=candidate)

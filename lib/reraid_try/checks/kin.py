@@ -121,7 +121,7 @@ def rivalled(it: Candidate, other: Candidate, same: Mapping[int, int]) -> str:
     if it.score is Score.CHECKED:
         return CONTENT
     bad = (it.unsound or 0) - (other.unsound or 0)
-    return UNSOUND if bad > max(LEAST_BAD, it.hunt.evidence.filled // MOST_BAD) else ""
+    return UNSOUND if bad > max(LEAST_BAD, it.scope.evidence.filled // MOST_BAD) else ""
 
 
 def has_as_much(one: Candidate, other: Candidate) -> bool:
@@ -145,7 +145,7 @@ def contradict(one: Candidate, other: Candidate, same: Mapping[int, int]) -> boo
     """Two sets have some images in common, in parts of the disks that overlap, and neither has the volume of the other, nor one that begins inside
     it, nor is but without some disks what the other is: at most one of them is right."""
     keys = key(one.word, same), key(other.word, same)
-    parts = one.hunt.evidence, other.hunt.evidence
+    parts = one.scope.evidence, other.scope.evidence
     apart = parts[0].end <= parts[1].start or parts[1].end <= parts[0].start
     shared = set(keys[0].slots) & set(keys[1].slots) - {None}
     related = keys[0].family == keys[1].family and (keys[0] == keys[1] or rows_behind(*keys) or rows_behind(*keys[::-1]))

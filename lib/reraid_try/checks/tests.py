@@ -91,10 +91,10 @@ class Tests:
         already is not asked again."""
         if candidate.unsound is not None or not rows and candidate.groups:
             return
-        plan = candidate.hunt.checked_by(candidate.step)
+        plan = candidate.scope.checked_by(candidate.step)
         if plan is None or candidate.listed is None:
             return
-        told = candidate.hunt.program.check(candidate.listed.text, plan if rows else plan.having(window=1))
+        told = candidate.scope.program.check(candidate.listed.text, plan if rows else plan.having(window=1))
         if told:
             candidate.groups = told.groups
             candidate.unsound = told.unsound if rows else None
@@ -102,8 +102,8 @@ class Tests:
 
     def unsound_rows(self, candidate: Candidate, word: Word) -> int:
         """How many rows are unsound of a set like a candidate's."""
-        plan = candidate.hunt.checked_by(candidate.step)
-        told = candidate.hunt.program.check(word.text, plan) if plan else None
+        plan = candidate.scope.checked_by(candidate.step)
+        told = candidate.scope.program.check(word.text, plan) if plan else None
         return told.unsound if told else candidate.unsound or 0
 
     def without_damaged(self, tested: Sequence[Candidate]) -> list[Candidate]:
@@ -118,8 +118,8 @@ class Tests:
         return found
 
     def left_out(self, candidate: Candidate) -> list[frozenset[int]]:
-        """What may be left out of a candidate, by places among the images of its hunt: the two images that make most rows unsound, or each one, where
-        parity does not tell which that is."""
+        """What may be left out of a candidate, by places among the images of its scope: the two images that make most rows unsound, or each one,
+        where parity does not tell which that is."""
         listed = candidate.listed or candidate.word
         if listed.spare < damage.TELLING:
             return [frozenset({image}) for image in listed.images]
@@ -128,7 +128,7 @@ class Tests:
                                                            "counts inconsistent rows without each image")))
         blamed = damage.blamed(candidate, counts)
         if blamed:
-            numbers = [candidate.hunt.evidence.images[image].number for image in blamed]
+            numbers = [candidate.scope.evidence.images[image].number for image in blamed]
             told = ", ".join(f"{(candidate.unsound or 0) - counts[image]} because of image {number}" for image, number in zip(blamed, numbers))
             self.report.say("blamed", f"  {candidate.word.text}: {candidate.unsound} rows inconsistent, {told}", set=candidate.word.text,
                             unsound=candidate.unsound, images=numbers)
@@ -271,7 +271,7 @@ class Tests:
             return [found] if found else []
         begin = self.side_by_side(self.begins, found, "reads how the candidates begin")
         known, others = [[it for it, kind in zip(found, begin) if kind == wanted] for wanted in (True, False)]
-        later = bool(others and others[0].hunt.plan.groups) and not self.late
+        later = bool(others and others[0].scope.plan.groups) and not self.late
         if others and (known or later):
             self.report.say("begins", f"  {len(known)} of {len(found)} volumes begin with known contents; " +
                             ("the others are deferred" if later else "these are checked first"), known=len(known), sets=len(found))

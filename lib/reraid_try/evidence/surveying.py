@@ -1,4 +1,4 @@
-"""Surveys of large images: one for all kinds of landmarks and all hunts over some images, and of sparse images of what they hold."""
+"""Surveys of large images: one for all kinds of landmarks and all scopes over some images, and of sparse images of what they hold."""
 
 import collections
 import dataclasses

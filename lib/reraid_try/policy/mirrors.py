@@ -1,4 +1,4 @@
-"""RAID 10 by its copies: what is asked of them, which images hold the same, and the hunts over one image of each such group."""
+"""RAID 10 by its copies: what is asked of them, which images hold the same, and the scopes over one image of each such group."""
 
 import dataclasses
 import itertools
@@ -12,7 +12,7 @@ from ..evidence import shifts
 from ..evidence.families import CHUNKS, connected
 from ..evidence.gathered import Evidence, Pairs
 from ..evidence.images import Image
-from .hunt import Hunt
+from .scope import Scope
 
 # What fails in a window of so many sectors fails in a large one; with rows that maps call unread it is so many times as many.
 SMALL_WINDOW, SMALL_TIMES = 8192, 4
@@ -66,7 +66,7 @@ def moved(count: int, distance: int, evidence: Evidence) -> Iterator[Copied]:
 
 @dataclasses.dataclass(frozen=True)
 class Grouped:
-    """A way in which the images of a hunt are grouped, by their places there: those of a group hold the same. With how many copies there are of each
+    """A way in which the images of a scope are grouped, by their places there: those of a group hold the same. With how many copies there are of each
     chunk, and the offsets at which the groups agree."""
 
     groups: tuple[Group, ...]
@@ -132,20 +132,20 @@ def is_striped(it: Ranked) -> bool:
 
 
 class Mirrors:
-    """The sets of a RAID 10 of the images of a hunt."""
+    """The sets of a RAID 10 of the images of a scope."""
 
-    def __init__(self, hunt: Hunt, commands: Runner) -> None:
-        self.hunt, self.commands = hunt, commands
+    def __init__(self, scope: Scope, commands: Runner) -> None:
+        self.scope, self.commands = scope, commands
 
     def words(self, asked: Copied, offsets: Sequence[int], window: int) -> list[str]:
         """The command that lists them."""
-        evidence = self.hunt.evidence
-        return self.hunt.program.mirror_words(asked, evidence.unread, offsets, asked.end or evidence.end, window)
+        evidence = self.scope.evidence
+        return self.scope.program.mirror_words(asked, evidence.unread, offsets, asked.end or evidence.end, window)
 
     def listing(self, asked: Copied) -> Listing:
         """The sets. What fails in a small window fails in a large one, so that is asked of the offsets that are left alone; where its time is up,
         the sets of the small window stand."""
-        program, evidence = self.hunt.program, self.hunt.evidence
+        program, evidence = self.scope.program, self.scope.evidence
         small = min(evidence.window, max(SMALL_WINDOW, SMALL_TIMES * evidence.unread))
         tried = asked.offsets or evidence.tried
         page = program.mirrors(self.words(asked, tried, small))
@@ -164,4 +164,4 @@ class Mirrors:
 
     def late(self, page: Page, where: str = "") -> Listing:
         """What was listed before its time was up."""
-        return Listing(page.sets, page.total or 0, False, where + self.hunt.program.late_note())
+        return Listing(page.sets, page.total or 0, False, where + self.scope.program.late_note())

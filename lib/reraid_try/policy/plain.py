@@ -48,7 +48,7 @@ class Unsound:
 
 
 @dataclasses.dataclass(frozen=True)
-class Aim:
+class Target:
     """Images, by their numbers, that are searched as an array, in a part of each; the shapes that are tried, in order, and why. `asked` are operands
     that are asked for in each step, as far as they are known; `copied` says that RAID 10 is tried before them, `tied` that parity ties
     them; `begin` is a row of the array, so that its data do not begin later, None where none is known; `moved` has the offset of each image, where
@@ -112,12 +112,12 @@ def allowed(shapes: Iterable[Shape], options: Options) -> tuple[Shape, ...]:
                                and (options.members is None or it.members in options.members)))
 
 
-def aim_of(known: Known, span: Span, options: Options) -> Aim:
+def target_of(known: Known, span: Span, options: Options) -> Target:
     """What is tried of images that parity ties."""
     family = known.family
     why = f"{ties.named(family.images)}: {ties.lost_line(family)}"
-    return Aim(family.current, span, why, allowed(shapes_of(family), options), chunks(known.chunk), tied=True, begin=known.begin,
-               unsound=unsound_of(family, options))
+    return Target(family.current, span, why, allowed(shapes_of(family), options), chunks(known.chunk), tied=True, begin=known.begin,
+                  unsound=unsound_of(family, options))
 
 
 def chunks(chunk: int | None) -> tuple[tuple[str, str], ...]:
@@ -125,25 +125,25 @@ def chunks(chunk: int | None) -> tuple[tuple[str, str], ...]:
     return (("chunks", str(chunk)),) if chunk else ()
 
 
-def unlike_aim(found: Unlike, numbers: Sequence[int], span: Span, options: Options) -> Aim:
+def unlike_target(found: Unlike, numbers: Sequence[int], span: Span, options: Options) -> Target:
     """What is tried of images whose data begin at unlike sectors."""
     asked = (("mode", "each"), ("offsets", listed(found.offsets)), ("window", str(EACH_WINDOW)), *chunks(found.known.chunk))
     why = f"{found.line()}: {ties.lost_line(found.known.family)}"
-    return Aim(tuple(numbers), span, why, allowed(shapes_of(found.known.family), options), asked, tied=True,
-               begin=found.known.begin, moved=found.offsets)
+    return Target(tuple(numbers), span, why, allowed(shapes_of(found.known.family), options), asked, tied=True,
+                  begin=found.known.begin, moved=found.offsets)
 
 
-def guessed_aims(offsets: Sequence[int], numbers: Sequence[int], span: Span, options: Options) -> list[Aim]:
+def guessed_targets(offsets: Sequence[int], numbers: Sequence[int], span: Span, options: Options) -> list[Target]:
     """What is tried of images that hold the same at distances which agree with one beginning of each, where parity does not tie them: as many disks
     lost as a level bears."""
     asked = (("mode", "each"), ("offsets", listed(offsets)), ("window", str(EACH_WINDOW)))
     why = f"the distances between equal data on the images suggest that their data begin at sectors {', '.join(map(str, offsets))}"
     count = len(numbers)
     shapes = allowed([Shape("5", count + 1, 1), Shape("6", count + 2, 2)], options)
-    return [Aim(tuple(numbers), span, why, shapes, asked)] if shapes else []
+    return [Target(tuple(numbers), span, why, shapes, asked)] if shapes else []
 
 
-def metadata_aim(members: Sequence[Member], span: Span, options: Options) -> Aim | None:
+def metadata_target(members: Sequence[Member], span: Span, options: Options) -> Target | None:
     """What is tried of images whose metadata name an array; None where a set has no words for it, or level 10 is named, of which copies tell."""
     left_out = metadata.old(members)
     placed = [it for it in members if it not in left_out and it.slot is not None]
@@ -156,10 +156,10 @@ def metadata_aim(members: Sequence[Member], span: Span, options: Options) -> Aim
     asked += [("mode", "each"), ("window", str(EACH_WINDOW))] if len(offsets) > 1 else []
     images = tuple(sorted({it.image for it in placed}))
     shapes = allowed([Shape(level, placed[0].disks, placed[0].disks - len(images))], options) if len(images) <= placed[0].disks else ()
-    return Aim(images, span, f"metadata on {ties.named(images)} ({placed[0].source}) describe it, and may be wrong", shapes, tuple(asked))
+    return Target(images, span, f"metadata on {ties.named(images)} ({placed[0].source}) describe it, and may be wrong", shapes, tuple(asked))
 
 
-def named_aim(members: Sequence[Member], span: Span, options: Options, images: int) -> Aim | None:
+def named_target(members: Sequence[Member], span: Span, options: Options, images: int) -> Target | None:
     """Return what is tried of large images whose metadata name an array with the slot of each: just that set, before more is read than what parity is
     tested in. None where they do not, or each image has an offset of its own."""
     text = metadata.word_of(members, images)
@@ -171,32 +171,32 @@ def named_aim(members: Sequence[Member], span: Span, options: Options, images: i
     there, first = tuple(sorted(word.images)), (word.offset + MOST_WINDOW) * SECTOR
     why = f"metadata on {ties.named(there)} ({members[0].source}) give a layout, which may be wrong; little is read to test it"
     asked = (("offsets", str(word.offset)), ("chunks", str(word.chunk)))
-    return Aim(there, span, why, (shape,), asked, first=first, word=word.text) if is_asked else None
+    return Target(there, span, why, (shape,), asked, first=first, word=word.text) if is_asked else None
 
 
-def tied(told: Told, _numbers: Sequence[int], span: Span, options: Options) -> list[Aim]:
+def tied(told: Told, _numbers: Sequence[int], span: Span, options: Options) -> list[Target]:
     """What is tried of each family that parity ties, the largest first."""
-    return [aim for it in told.known if it.family.level in LEVELS and (aim := aim_of(it, span, options)).shapes]
+    return [target for it in told.known if it.family.level in LEVELS and (target := target_of(it, span, options)).shapes]
 
 
-def copied(told: Told, numbers: Sequence[int], span: Span, options: Options) -> list[Aim]:
+def copied(told: Told, numbers: Sequence[int], span: Span, options: Options) -> list[Target]:
     """What is tried of images of which some are copies: RAID 10 of all of them."""
     return copied_by((it for it in told.known if it.family.level == COPIES), numbers, span, options)
 
 
-def perhaps_copied(told: Told, numbers: Sequence[int], span: Span, options: Options) -> list[Aim]:
+def perhaps_copied(told: Told, numbers: Sequence[int], span: Span, options: Options) -> list[Target]:
     """What is tried where two images hold the same in fewer rows: RAID 10 of all, with few missing before anything else, since such copies are soon
     looked for, and with more."""
     found = copied_by((it for it in told.known if it.family.may_be_copies), numbers, span, options)
-    return [dataclasses.replace(aim, missing=missing) for aim in found for missing in (FEW_MISSING, MORE_MISSING)]
+    return [dataclasses.replace(target, missing=missing) for target in found for missing in (FEW_MISSING, MORE_MISSING)]
 
 
-def copied_by(known: Iterable[Known], numbers: Sequence[int], span: Span, options: Options) -> list[Aim]:
+def copied_by(known: Iterable[Known], numbers: Sequence[int], span: Span, options: Options) -> list[Target]:
     """RAID 10 of all images, where something is known that speaks for it."""
     found = tuple(known)
     if not found or not options.wants(COPIES):
         return []
-    return [Aim(tuple(numbers), span, "; ".join(ties.lines(Told(found, asked=True))), copied=True)]
+    return [Target(tuple(numbers), span, "; ".join(ties.lines(Told(found, asked=True))), copied=True)]
 
 
 def doubtful(told: Told) -> list[int]:
@@ -206,19 +206,19 @@ def doubtful(told: Told) -> list[int]:
     return [*told.alone, *several]
 
 
-def without_each(aims: Iterable[Aim], images: Sequence[int]) -> list[Aim]:
-    """These aims, with few members missing; then without one of these images, each in turn; and then with more missing."""
+def without_each(targets: Iterable[Target], images: Sequence[int]) -> list[Target]:
+    """These targets, with few members missing; then without one of these images, each in turn; and then with more missing."""
     found = []
-    for aim in aims:
-        without = [dataclasses.replace(aim, images=tuple(it for it in aim.images if it != image), missing=FEW_MISSING,
-                                       why=f"{aim.why}; image {image} may be no member or a bad copy, so it is left out")
-                   for image in images if len(aim.images) > LEAST_STRIPED]
-        few, more = (dataclasses.replace(aim, missing=missing) for missing in (FEW_MISSING, MORE_MISSING))
-        found += [few, *without, more] if without else [aim]
+    for target in targets:
+        without = [dataclasses.replace(target, images=tuple(it for it in target.images if it != image), missing=FEW_MISSING,
+                                       why=f"{target.why}; image {image} may be no member or a bad copy, so it is left out")
+                   for image in images if len(target.images) > LEAST_STRIPED]
+        few, more = (dataclasses.replace(target, missing=missing) for missing in (FEW_MISSING, MORE_MISSING))
+        found += [few, *without, more] if without else [target]
     return found
 
 
-def halves_aims(told: Told, images: Sequence[Image], span: Span, options: Options) -> list[Aim]:
+def halves_targets(told: Told, images: Sequence[Image], span: Span, options: Options) -> list[Target]:
     """What is tried where two images hold the same in most rows and not in all, beside others: RAID 10 without each of the two in turn, since one
     may be an older state of the other, as a stale copy is, or a disk that was imaged twice."""
     same = {frozenset((image.number, image.like)) for image in images if image.like is not None}
@@ -227,20 +227,20 @@ def halves_aims(told: Told, images: Sequence[Image], span: Span, options: Option
     if not halves or len(images) <= LEAST_STRIPED or span.partition or not options.wants(COPIES):
         return []
     said = "; ".join(f"images {one} and {other} hold the same in most rows: one may be an older state of the other" for one, other in halves)
-    return [Aim(tuple(image.number for image in images), span, f"{said}, so each is left out in turn", copied=True, halves=halves)]
+    return [Target(tuple(image.number for image in images), span, f"{said}, so each is left out in turn", copied=True, halves=halves)]
 
 
-def apart_aim(distance: int, numbers: Sequence[int], span: Span) -> Aim:
+def apart_target(distance: int, numbers: Sequence[int], span: Span) -> Target:
     """What is tried of images that hold the same so many sectors apart: RAID 10 of all of them."""
     why = (f"much of the data is on another image too, {distance} sectors apart, as in RAID 10 of layout {shifts.layout(distance)}")
-    return Aim(tuple(numbers), span, why, copied=True, apart=distance)
+    return Target(tuple(numbers), span, why, copied=True, apart=distance)
 
 
-def untied(told: Told, numbers: Sequence[int], span: Span, options: Options) -> list[Aim]:
+def untied(told: Told, numbers: Sequence[int], span: Span, options: Options) -> list[Target]:
     """What is tried of images that nothing ties: RAID 0, and arrays that have lost as many disks as their level bears."""
     shapes = () if told.known else silent(told, numbers, options)
     why = f"{ties.named(numbers)}: parity matches nothing, as with RAID 0 or the maximum of missing disks"
-    return [Aim(tuple(numbers), span, why, shapes)] if shapes else []
+    return [Target(tuple(numbers), span, why, shapes)] if shapes else []
 
 
 def silent(told: Told, numbers: Sequence[int], options: Options) -> tuple[Shape, ...]:
@@ -252,15 +252,15 @@ def silent(told: Told, numbers: Sequence[int], options: Options) -> tuple[Shape,
     return allowed([Shape("0", count), Shape("5", count + 1, 1), Shape("6", count + 2, 2)], options)
 
 
-def with_thousands(aims: Sequence[Aim], untied_shapes: tuple[Shape, ...]) -> list[Aim]:
-    """These aims, of which landmarks by the thousand too are asked, at the shapes at which parity tells nothing: of images that are tied as where as
-    many disks are lost as the level bears, and, at these shapes, of the first aim over images that nothing ties. None where each image has an offset
-    of its own."""
-    first = next((aim for aim in aims if not aim.tied and not aim.is_each), None)
+def with_thousands(targets: Sequence[Target], untied_shapes: tuple[Shape, ...]) -> list[Target]:
+    """These targets, of which landmarks by the thousand too are asked, at the shapes at which parity tells nothing: of images that are tied as where
+    as many disks are lost as the level bears, and, at these shapes, of the first target over images that nothing ties. None where each image has an
+    offset of its own."""
+    first = next((target for target in targets if not target.tied and not target.is_each), None)
 
-    def asked(aim: Aim) -> tuple[Shape, ...]:
-        """The shapes at which an aim asks them."""
-        if aim.tied and not aim.is_each and not aim.shapes[0].parity:
-            return tuple(shape for shape in aim.shapes if not shape.parity)
-        return untied_shapes if aim is first else ()
-    return [dataclasses.replace(aim, by_thousands=asked(aim)) for aim in aims]
+    def asked(target: Target) -> tuple[Shape, ...]:
+        """The shapes at which a target asks them."""
+        if target.tied and not target.is_each and not target.shapes[0].parity:
+            return tuple(shape for shape in target.shapes if not shape.parity)
+        return untied_shapes if target is first else ()
+    return [dataclasses.replace(target, by_thousands=asked(target)) for target in targets]

@@ -7,7 +7,7 @@ from ..evidence.images import Image
 from ..evidence.ties import Told
 from ..options import Options
 from . import plain
-from .plain import Aim, Span
+from .plain import Target, Span
 from .shapes import Shape
 
 
@@ -17,7 +17,7 @@ def line(image: Image, others: Iterable[Image]) -> str:
             "longest: others hold data after it, so its imaging may have stopped")
 
 
-def aims(short: Sequence[Image], told: Told, span: Span, images: Sequence[Image], options: Options) -> list[Aim]:
+def targets(short: Sequence[Image], told: Told, span: Span, images: Sequence[Image], options: Options) -> list[Target]:
     """What is tried first: of images that parity ties those without the ones that end early, if the level bears so many missing disks."""
     out = {image.number for image in short}
     found = []
@@ -32,6 +32,6 @@ def aims(short: Sequence[Image], told: Told, span: Span, images: Sequence[Image]
         end = span.end if span.partition else min(image.sectors for image in images if image.number in rest)
         why = "without images that end early, which the level tolerates, so that the volume is whole"
         if shapes:
-            found.append(Aim(rest, Span(span.first, end, span.partition), why, shapes, plain.chunks(known.chunk), tied=True, begin=known.begin,
-                             by_thousands=() if shape.parity else shapes))
+            found.append(Target(rest, Span(span.first, end, span.partition), why, shapes, plain.chunks(known.chunk), tied=True, begin=known.begin,
+                                by_thousands=() if shape.parity else shapes))
     return found

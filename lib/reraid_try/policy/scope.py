@@ -1,4 +1,4 @@
-"""A hunt: a search over some of the images, by their evidence; what is listed of each step, and what is passed over."""
+"""A scope: a search over some of the images, by their evidence; what is listed of each step, and what is passed over."""
 
 import dataclasses
 import itertools
@@ -28,9 +28,9 @@ from .steps import Step
 FEW_SETS = 1
 
 
-class Hunt:
+class Scope:
     """A search over these images, behind a start on each. With `pairs` its sets are those of a RAID 0 of one image of each pair; `asked` is asked for
-    in each step; `tied` says that parity ties the images; `shared` has the surveys of other hunts. `late` is told of each question that ran out of
+    in each step; `tied` says that parity ties the images; `shared` has the surveys of other scopes. `late` is told of each question that ran out of
     its time; `cut_short` has the plans of which the listing did."""
 
     def __init__(self, options: Options, commands: Runner, images: Sequence[Image], late: Late, pairs: Pairs | None = None,
@@ -61,7 +61,7 @@ class Hunt:
 
     @property
     def near_plan(self) -> Plan:
-        """The first plan, with the places of the images in this hunt in place of their numbers among all, and with landmarks of later kinds."""
+        """The first plan, with the places of the images in this scope in place of their numbers among all, and with landmarks of later kinds."""
         return self.surveys.plan(self.evidence.base.having(kinds=every_kind()))
 
     def ways(self, shape: Shape, stage: Stage) -> Iterator[tuple[tuple[Relaxation, ...], Request]]:
@@ -128,7 +128,7 @@ class Hunt:
         self.commands.tell(" | ".join(quoted(it) for it in words))
 
     def word(self, text: str) -> Word:
-        """A set of this hunt as one of all images, with one offset where all are the same."""
+        """A set of this scope as one of all images, with one offset where all are the same."""
         word = read_word(text).folded()
         pairs = self.evidence.pairs
         if not pairs:

@@ -12,7 +12,7 @@ from reraid_try.calls.commands import Answer, Words
 from reraid_try.calls.program import Copied, Listing
 from reraid_try.checks.verdicts import Score
 from reraid_try.evidence import ties
-from reraid_try.evidence.families import Family
+from reraid_try.evidence.image_groups import ImageGroup
 from reraid_try.evidence.heads import Head
 from reraid_try.evidence.images import Image
 from reraid_try.evidence.maps import Map
@@ -340,7 +340,7 @@ class Apart(unittest.TestCase):
         self.assertEqual(target.why, "much of the data is on another image too, 128 sectors apart, as in RAID 10 of layout offset")
         self.assertEqual([target.apart for target in self.unlike((), (0, 1, 2), shown, options=Options(("a",), levels=("5",)))], [None])
         self.assertEqual(self.report.lines, [self.named])
-        five = ties.Known(Family((0, 1, 2), 500, 8, 900, "5", 1), None, 40)
+        five = ties.Known(ImageGroup((0, 1, 2), 500, 8, 900, "5", 1), None, 40)
         found = self.unlike((), (0, 1, 2), shown, [Unlike((8, 136, 264), five), Unlike((0, 128, 256), dataclasses.replace(five, begin=48))])
         self.assertEqual([(target.moved, target.apart, target.begin, target.shapes) for target in found],
                          [((8, 136, 264), None, 40, (Shape("5", 3),)), ((0, 128, 256), None, 48, (Shape("5", 3),))])
@@ -367,8 +367,8 @@ class Apart(unittest.TestCase):
 
     def test_an_image_that_nothing_ties_where_a_disk_is_lost(self) -> None:
         """Its data may begin elsewhere. Where none is lost it is foreign, and where all are tied nothing is looked for; nor are copies."""
-        lost, full = (ties.Known(Family((0, 1), 500, 8, 900, "6", parity)) for parity in (1, 2))
-        offsets = [Unlike((8, 8, 136), ties.Known(Family((0, 1, 2), 500, 8, 900, "6", 2)))]
+        lost, full = (ties.Known(ImageGroup((0, 1), 500, 8, 900, "6", parity)) for parity in (1, 2))
+        offsets = [Unlike((8, 8, 136), ties.Known(ImageGroup((0, 1, 2), 500, 8, 900, "6", 2)))]
         self.assertEqual([target.moved for target in self.unlike((lost,), (2,), (), offsets)], [(8, 8, 136)])
         self.assertEqual(self.unlike((lost,), (2,), [Shift(0, 2, 128, 50), Shift(1, 2, 128, 50)]), [])
         self.assertEqual(self.unlike((full,), (2,), (), offsets), [])
@@ -376,10 +376,10 @@ class Apart(unittest.TestCase):
 
     def test_images_of_which_some_begin_alike(self) -> None:
         """Few rows tie those, where others hold zeros: the others may be as many as there are. Copies are no such images."""
-        few = ties.Known(Family((0,), 500, 8, 900, "5", 0))
-        offsets = [Unlike((8, 8, 136), ties.Known(Family((0, 1, 2), 500, 8, 900, "5", 1)))]
+        few = ties.Known(ImageGroup((0,), 500, 8, 900, "5", 0))
+        offsets = [Unlike((8, 8, 136), ties.Known(ImageGroup((0, 1, 2), 500, 8, 900, "5", 1)))]
         self.assertEqual([target.moved for target in self.unlike((few,), (1, 2), (), offsets)], [(8, 8, 136)])
-        for other in (dataclasses.replace(few.family, parity=1), dataclasses.replace(few.family, level="10")):
+        for other in (dataclasses.replace(few.group, parity=1), dataclasses.replace(few.group, level="10")):
             self.assertEqual(self.unlike((few, ties.Known(other)), (1, 2), (), offsets), [])
 
     def copies(self, target: Target, *content: int) -> tuple[bool, list[str]]:
@@ -568,8 +568,8 @@ class Sought(unittest.TestCase):
             self.assertEqual(self.seek(every, ends=True)[1], ["evidence", "plain 1 why", f"all {images} 1"])
 
     def with_all(self, images: tuple[int, ...], has: int | None) -> tuple[list[Any], list[Any], list[str], bool]:
-        """The steps of a target over images 2 and 0 with all of a family, the scopes that were begun for them, what was said, and whether a candidate
-        with all of them has a rating, where the step with so many things relaxed finds it, 0 of which is one that was there before."""
+        """The steps of a target over images 2 and 0 with all of a group, the scopes that were begun for them, what was said, and whether a
+        candidate with all of them has a rating, where the step with so many things relaxed finds it, 0 of which is one that was there before."""
         it, report = evident([Image(name, number, 900, first=8) for number, name in enumerate("abc")], NoTools({}), Options(("a",), seconds=60))
         setattr(it.search, "say_late", None)
         true, less = (cast(Any, types.SimpleNamespace(score=score, word=types.SimpleNamespace(images=those)))
@@ -594,8 +594,8 @@ class Sought(unittest.TestCase):
             return stages, [([one.number for one in call[0][2]], call[1]) for call in scope.call_args_list], report.lines, told
 
     def test_with_all(self) -> None:
-        """Where few rows leave images out, all of the family are tried as well, with rows that may be bad, until a candidate with all of them has a
-        rating: in the same scope where the images are the same, and else in one over all of them."""
+        """Where few rows leave images out, all of the group are tried as well, with rows that may be bad, until a candidate with all of them
+        has a rating: in the same scope where the images are the same, and else in one over all of them."""
         for images, name in (((2, 0), "old"), ((0, 1, 2), "new")):
             why = Unsound(images, Shape("5", 3)).line()
             for has, count in ((None, 2), (0, 0), (1, 1), (2, 2)):
@@ -698,8 +698,8 @@ class Evidence(unittest.TestCase):
         self.assertEqual(len(said), 2)
 
     def test_in_which_order(self) -> None:
-        """Metadata; data that begin at unlike sectors; two images that may be copies, few missing; families; such images, more missing; copies; whole
-        images that are the same; what nothing ties. Of copies those too of which an image is left out."""
+        """Metadata; data that begin at unlike sectors; two images that may be copies, few missing; groups; such images, more missing; copies;
+        whole images that are the same; what nothing ties. Of copies those too of which an image is left out."""
         it, _ = evident([Image(name, number, 300, first=0) for number, name in enumerate("abc")], Standin({}, Answer(None)), Options(("a",)))
 
         def targets(why: str) -> Any:

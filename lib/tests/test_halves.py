@@ -6,7 +6,7 @@ from typing import Any
 from unittest import mock
 
 from reraid_try.checks.verdicts import Score
-from reraid_try.evidence.families import Family
+from reraid_try.evidence.image_groups import ImageGroup
 from reraid_try.evidence.images import Image
 from reraid_try.evidence.ties import Known, Told
 from reraid_try.options import Options
@@ -17,14 +17,15 @@ from reraid_try.policy.plain import Target, Span
 
 # Of a stripe over mirrors: images 0 and 3 are the same, 1 and 4 were, and the copy of 2 is missing.
 IMAGES = tuple(Image(f"{k}.img", k, 900, first=0, like=0 if k == 3 else None) for k in range(5))
-STALE = Family((1, 4), 860, 0, 899, "10", 1)
+STALE = ImageGroup((1, 4), 860, 0, 899, "10", 1)
 OPTIONS = Options(("a",) * 5)
 
 
 class Halves(unittest.TestCase):
-    def halves(self, *families: Family, images: tuple[Image, ...] = IMAGES, span: Span = Span(0, 900), options: Options = OPTIONS) -> list[Target]:
+    def halves(self, *image_groups: ImageGroup, images: tuple[Image, ...] = IMAGES, span: Span = Span(0, 900),
+               options: Options = OPTIONS) -> list[Target]:
         """What is tried."""
-        return plain.halves_targets(Told(tuple(map(Known, families)), (), True), images, span, options)
+        return plain.halves_targets(Told(tuple(map(Known, image_groups)), (), True), images, span, options)
 
     def test_target(self) -> None:
         """All images, of which two are named."""
@@ -35,8 +36,8 @@ class Halves(unittest.TestCase):
     def test_none(self) -> None:
         """None of images that are the same, of three that are alike, of ties by parity, of few images, in a partition, or where RAID 10 is not asked
         for."""
-        for family in (Family((0, 3), 860, 0, 899, "10", 1), Family((0, 1, 4), 860, 0, 899, "10", 1), Family((1, 4), 860, 0, 899, "5", 1)):
-            self.assertEqual(self.halves(family), [])
+        for group in (ImageGroup((0, 3), 860, 0, 899, "10", 1), ImageGroup((0, 1, 4), 860, 0, 899, "10", 1), ImageGroup((1, 4), 860, 0, 899, "5", 1)):
+            self.assertEqual(self.halves(group), [])
         self.assertEqual(self.halves(STALE, images=IMAGES[1:3] + IMAGES[4:]), [])
         self.assertEqual(self.halves(STALE, span=Span(0, 900, True)), [])
         self.assertEqual(self.halves(STALE, options=Options(("a",) * 5, levels=("5", "6"))), [])

@@ -3,7 +3,7 @@
 import dataclasses
 import unittest
 
-from reraid_try.evidence.families import Family, Old
+from reraid_try.evidence.image_groups import ImageGroup, Old
 from reraid_try.evidence.metadata import Member
 from reraid_try.evidence.ties import Known, Told
 from reraid_try.evidence.unlike import Unlike
@@ -16,58 +16,58 @@ SPAN = Span(0, 1000)
 ALL = Options(("a", "b"))
 
 
-def family(images: int, level: str, parity: int, old: tuple[Old, ...] = (), others: tuple[int, ...] = (), loose: int = 0) -> Family:
-    """A family of so many images from 0 on."""
-    return Family(tuple(range(images)), 500, 8, 900, level, parity, old, None, others, loose, 8 if loose else None)
+def group(images: int, level: str, parity: int, old: tuple[Old, ...] = (), others: tuple[int, ...] = (), loose: int = 0) -> ImageGroup:
+    """A group of so many images from 0 on."""
+    return ImageGroup(tuple(range(images)), 500, 8, 900, level, parity, old, None, others, loose, 8 if loose else None)
 
 
 class Shapes(unittest.TestCase):
-    """The shapes of a family."""
+    """The shapes of a group."""
 
-    def shapes(self, it: Family) -> list[Shape]:
+    def shapes(self, it: ImageGroup) -> list[Shape]:
         """What is tried of it."""
         targets = plain.tied(Told((Known(it),), (), True), it.images, SPAN, ALL)
         return [shape for target in targets for shape in target.shapes]
 
     def test_by_parity(self) -> None:
         """As many disks are lost as ties say."""
-        self.assertEqual(self.shapes(family(4, "5", 1)), [Shape("5", 4)])
-        self.assertEqual(self.shapes(family(4, "5", 0)), [Shape("5", 5, 1)])
-        self.assertEqual([self.shapes(family(6, "6", parity)) for parity in (2, 1, 0)],
+        self.assertEqual(self.shapes(group(4, "5", 1)), [Shape("5", 4)])
+        self.assertEqual(self.shapes(group(4, "5", 0)), [Shape("5", 5, 1)])
+        self.assertEqual([self.shapes(group(6, "6", parity)) for parity in (2, 1, 0)],
                          [[Shape("6", 6)], [Shape("6", 7, 1)], [Shape("6", 8, 2), Shape("5", 7, 1)]])
 
     def test_old(self) -> None:
         """An old disk is left out and counts as lost."""
-        it = family(6, "6", 2, (Old(4, 100, 50),))
+        it = group(6, "6", 2, (Old(4, 100, 50),))
         target, = plain.tied(Told((Known(it, 256),), (), True), it.images, SPAN, ALL)
         self.assertEqual((target.images, target.shapes, target.asked), ((0, 1, 2, 3, 5), (Shape("6", 6, 1),), (("chunks", "256"),)))
 
     def test_in_doubt(self) -> None:
         """Where not few rows say another number of ties, that is tried after; where rows are not tied, that one of the disks is old."""
-        self.assertEqual(self.shapes(family(4, "5", 0, others=(1,))), [Shape("5", 5, 1), Shape("5", 4)])
-        self.assertEqual(self.shapes(family(4, "5", 1, loose=9)), [Shape("5", 4), Shape("5", 4, 1, 1)])
+        self.assertEqual(self.shapes(group(4, "5", 0, others=(1,))), [Shape("5", 5, 1), Shape("5", 4)])
+        self.assertEqual(self.shapes(group(4, "5", 1, loose=9)), [Shape("5", 4), Shape("5", 4, 1, 1)])
         # Where a level 5 has lost a disk already, an old one would be one too many.
-        self.assertEqual(self.shapes(family(4, "5", 0, loose=9)), [Shape("5", 5, 1)])
+        self.assertEqual(self.shapes(group(4, "5", 0, loose=9)), [Shape("5", 5, 1)])
 
     def test_unsound(self) -> None:
         """What few rows leave out, or do not tie, may be bad areas: all images are tried as well. Not where these are many rows, nor where parity
         tells nothing with all of them."""
-        def unsound(it: Family) -> tuple[tuple[int, ...], Shape] | None:
+        def unsound(it: ImageGroup) -> tuple[tuple[int, ...], Shape] | None:
             """The images and the shape that are tried as well."""
             target, = plain.tied(Told((Known(it),), (), True), it.images, SPAN, ALL)
             return (target.unsound.images, target.unsound.shape) if target.unsound else None
-        self.assertEqual(unsound(family(4, "5", 1, loose=125)), ((0, 1, 2, 3), Shape("5", 4)))
-        self.assertIsNone(unsound(family(4, "5", 1, loose=126)))
-        self.assertIsNone(unsound(family(4, "5", 1)))
-        self.assertIsNone(unsound(family(4, "5", 0, loose=9)))
+        self.assertEqual(unsound(group(4, "5", 1, loose=125)), ((0, 1, 2, 3), Shape("5", 4)))
+        self.assertIsNone(unsound(group(4, "5", 1, loose=126)))
+        self.assertIsNone(unsound(group(4, "5", 1)))
+        self.assertIsNone(unsound(group(4, "5", 0, loose=9)))
         old = (Old(0, 50, 50), Old(4, 60, 50))
-        self.assertEqual(unsound(family(6, "6", 2, old)), ((0, 1, 2, 3, 4, 5), Shape("6", 6)))
-        self.assertEqual(unsound(family(6, "6", 1, (Old(4, 60, 50),))), ((0, 1, 2, 3, 4, 5), Shape("6", 7, 1)))
-        self.assertIsNone(unsound(family(6, "6", 2, (Old(0, 60, 50), Old(4, 66, 50)))))
+        self.assertEqual(unsound(group(6, "6", 2, old)), ((0, 1, 2, 3, 4, 5), Shape("6", 6)))
+        self.assertEqual(unsound(group(6, "6", 1, (Old(4, 60, 50),))), ((0, 1, 2, 3, 4, 5), Shape("6", 7, 1)))
+        self.assertIsNone(unsound(group(6, "6", 2, (Old(0, 60, 50), Old(4, 66, 50)))))
 
     def test_options(self) -> None:
         """Levels and members that are not asked for are not tried."""
-        told = Told((Known(family(4, "5", 1)),), (), True)
+        told = Told((Known(group(4, "5", 1)),), (), True)
         self.assertEqual(plain.tied(told, range(4), SPAN, Options(("a",), levels=("0", "6"))), [])
         self.assertEqual(plain.tied(told, range(4), SPAN, Options(("a",), members=(5,))), [])
 
@@ -76,15 +76,15 @@ class Targets(unittest.TestCase):
     """What is tried of images."""
 
     def test_two_arrays(self) -> None:
-        """Each family is searched for itself."""
-        other = Family((7, 8, 9), 500, 8, 900, "5", 1)
-        targets = plain.tied(Told((Known(family(5, "6", 1)), Known(other)), (5, 6), True), range(10), SPAN, ALL)
+        """Each group is searched for itself."""
+        other = ImageGroup((7, 8, 9), 500, 8, 900, "5", 1)
+        targets = plain.tied(Told((Known(group(5, "6", 1)), Known(other)), (5, 6), True), range(10), SPAN, ALL)
         self.assertEqual([(it.images, it.shapes) for it in targets], [((0, 1, 2, 3, 4), (Shape("6", 6, 1),)), ((7, 8, 9), (Shape("5", 3),))])
         self.assertEqual(plain.untied(Told((Known(other),), (), True), range(10), SPAN, ALL), [])
 
     def test_copies(self) -> None:
         """Copies are searched as RAID 10 of all images, and not where that is not asked for."""
-        told = Told((Known(Family((0, 2), 500, 8, 900, "10", 0, copies=((0, 2),))),), (1,), True)
+        told = Told((Known(ImageGroup((0, 2), 500, 8, 900, "10", 0, copies=((0, 2),))),), (1,), True)
         target, = plain.copied(told, range(3), SPAN, ALL)
         self.assertEqual((target.images, target.copied, target.shapes, target.why), ((0, 1, 2), True, (), "images 0 and 2 hold the same data"))
         self.assertEqual(plain.copied(told, range(3), SPAN, Options(("a",), levels=("5",))), [])
@@ -93,7 +93,7 @@ class Targets(unittest.TestCase):
 
     def test_copies_beside_a_foreign_image(self) -> None:
         """One that nothing ties is left out, or one of three that hold the same; between few members missing and more."""
-        pair, three = (Known(Family(images, 900, 8, 900, "10", 0, copies=((0, 2),))) for images in ((0, 2), (0, 2, 3)))
+        pair, three = (Known(ImageGroup(images, 900, 8, 900, "10", 0, copies=((0, 2),))) for images in ((0, 2), (0, 2, 3)))
         self.assertEqual([plain.doubtful(told) for told in (Told((pair,), (1, 3), True), Told((three,), (1,), True), Told((pair,), (), True))],
                          [[1, 3], [1, 0, 2, 3], []])
         all_of, = plain.copied(Told((pair,), (1, 3), True), range(4), SPAN, ALL)
@@ -112,7 +112,7 @@ class Targets(unittest.TestCase):
 
     def test_two_images_that_are_the_same_in_some_rows(self) -> None:
         """Copies of a RAID 10, as is tried first, or what level 5 has of three disks of which one is lost."""
-        told = Told((Known(Family((0, 2), 500, 8, 900, "5", 0)),), (1,), True)
+        told = Told((Known(ImageGroup((0, 2), 500, 8, 900, "5", 0)),), (1,), True)
         target, later = plain.perhaps_copied(told, range(3), SPAN, ALL)
         self.assertEqual((target.missing, later), ((0, 1), dataclasses.replace(target, missing=(2, 3))))
         self.assertEqual((target.images, target.copied, target.shapes), ((0, 1, 2), True, ()))
@@ -123,7 +123,7 @@ class Targets(unittest.TestCase):
         self.assertEqual(tied.why, "images 0, 2: hold the same data in 500 rows of those sampled, as RAID 5 does if its third disk is missing and "
                                    "held zeros there")
         self.assertEqual(plain.copied(told, range(3), SPAN, ALL), [])
-        three = Told((Known(Family((0, 1, 2), 500, 8, 900, "5", 0)),), (), True)
+        three = Told((Known(ImageGroup((0, 1, 2), 500, 8, 900, "5", 0)),), (), True)
         self.assertEqual(plain.perhaps_copied(three, range(3), SPAN, ALL), [])
 
     def test_untied(self) -> None:
@@ -132,9 +132,9 @@ class Targets(unittest.TestCase):
         self.assertEqual(target.shapes, (Shape("0", 3), Shape("5", 4, 1), Shape("6", 5, 2)))
         self.assertEqual(plain.untied(Told(), range(3), SPAN, ALL), [])
         # Landmarks are asked too where some hold the same in few rows; not of copies.
-        few, copies = (Family((0, 1, 2), 51, 8, 900, "10", 0, copies=those) for those in ((), ((0, 1),)))
+        few, copies = (ImageGroup((0, 1, 2), 51, 8, 900, "10", 0, copies=those) for those in ((), ((0, 1),)))
         for told, shapes in ((Told((), (0, 1, 2), True), target.shapes), (Told((Known(few),), (), True), target.shapes), (Told(), ()),
-                             (Told((Known(copies),), (2,), True), ()), (Told((Known(family(3, "5", 0)),), (), True), ())):
+                             (Told((Known(copies),), (2,), True), ()), (Told((Known(group(3, "5", 0)),), (), True), ())):
             self.assertEqual(plain.silent(told, range(3), ALL), shapes)
             self.assertEqual(plain.untied(told, range(3), SPAN, ALL), [] if told.known or not shapes else [target])
 
@@ -146,7 +146,7 @@ class Targets(unittest.TestCase):
 
     def test_unlike(self) -> None:
         """Images whose data begin at unlike sectors are asked for with an offset for each."""
-        target = plain.unlike_target(Unlike((16, 64, 16), Known(family(3, "5", 1))), range(3), SPAN, ALL)
+        target = plain.unlike_target(Unlike((16, 64, 16), Known(group(3, "5", 1))), range(3), SPAN, ALL)
         self.assertEqual(dict(target.asked) | {"window": ""}, {"mode": "each", "offsets": "16,64", "window": ""})
         self.assertTrue(target.is_each)
         self.assertEqual(target.shapes, (Shape("5", 3),))

@@ -240,13 +240,13 @@ class OfAsking(unittest.TestCase):
     def test_relaxations_that_make_sense(self) -> None:
         asking = Asking(evidence(), OPTIONS)
 
-        def families(shape: Shape, every: bool = False, quick: bool = False) -> set[RelaxationKind]:
+        def image_groups(shape: Shape, every: bool = False, quick: bool = False) -> set[RelaxationKind]:
             return {relaxation.relaxes for relaxation in asking.relaxations(shape, every, quick)}
-        self.assertNotIn(RelaxationKind.BAD_ROWS, families(Shape("0", 3)))
-        self.assertNotIn(RelaxationKind.WINDOW, families(Shape("0", 3)))
-        self.assertIn(RelaxationKind.BAD_ROWS, families(Shape("5", 3)))
-        self.assertNotIn(RelaxationKind.BAD_ROWS, families(Shape("6", 4, 1), quick=True))
-        self.assertIn(RelaxationKind.BAD_ROWS, families(Shape("6", 4, 1)))
+        self.assertNotIn(RelaxationKind.BAD_ROWS, image_groups(Shape("0", 3)))
+        self.assertNotIn(RelaxationKind.WINDOW, image_groups(Shape("0", 3)))
+        self.assertIn(RelaxationKind.BAD_ROWS, image_groups(Shape("5", 3)))
+        self.assertNotIn(RelaxationKind.BAD_ROWS, image_groups(Shape("6", 4, 1), quick=True))
+        self.assertIn(RelaxationKind.BAD_ROWS, image_groups(Shape("6", 4, 1)))
         self.assertFalse(any(it.slow for it in asking.relaxations(Shape("5", 3), quick=True) + asking.relaxations(Shape("5", 2, 0, 1))))
         self.assertTrue(any(relaxation.slow for relaxation in asking.relaxations(Shape("5", 3))))
         self.assertFalse(any(relaxation.kind for relaxation in asking.relaxations(Shape("5", 3))))
@@ -254,7 +254,7 @@ class OfAsking(unittest.TestCase):
         self.assertNotIn(RelaxationKind.ORIGINS, {it.relaxes for it in Asking(evidence(groups=()), OPTIONS).relaxations(Shape("5", 3))})
         # Parity may stay where there is some, also where as many disks are lost as the level bears, and soon tells.
         shapes = Shape("0", 3), Shape("5", 3), Shape("5", 4, 1), Shape("6", 5, 2), Shape("5,6", 4)
-        self.assertEqual([RelaxationKind.DELAYS in families(shape, quick=True) for shape in shapes], [False, True, True, True, True])
+        self.assertEqual([RelaxationKind.DELAYS in image_groups(shape, quick=True) for shape in shapes], [False, True, True, True, True])
 
     def test_unlike_offsets(self) -> None:
         self.assertEqual(Asking(evidence(), OPTIONS).unlike_offsets(), [[2048, 4096], [0, 2048]])

@@ -13,7 +13,7 @@ from reraid_try.calls.sets import NEAR_2, Word, read_word
 from reraid_try.checks.candidates import Candidate
 from reraid_try.checks.verdicts import Score
 from reraid_try.errors import Refused, Stopped
-from reraid_try.evidence.families import Reshape
+from reraid_try.evidence.image_groups import Reshape
 from reraid_try.evidence.hints import Hint, Source, What
 from reraid_try.evidence.images import Image
 from reraid_try.options import Options

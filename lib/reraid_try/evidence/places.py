@@ -12,7 +12,7 @@ from collections.abc import Callable, Iterable, Iterator, Mapping, Sequence
 from fractions import Fraction
 
 from ..calls.sets import LEVELS, Word, made, staying
-from .families import LEVEL_5, ties_among
+from .image_groups import LEVEL_5, ties_among
 from .relations import Relations
 
 CHUNKS = (8, 16, 32, 64, 128, 256, 512, 1024, 2048)

@@ -10,7 +10,7 @@ import zlib
 from collections.abc import Iterable, Iterator, Mapping, Sequence
 
 from ..calls.sets import FAR, MOST_COPIES, OFFSET
-from .families import connected
+from .image_groups import connected
 
 SECTOR = 512
 STEP = 1 << 20

@@ -11,8 +11,8 @@ import time
 from collections.abc import Iterable, Iterator, Mapping, Sequence
 
 from ..errors import OutsideError, said
-from . import families, shifts
-from .families import LEVEL_5, LEVEL_6, connected
+from . import image_groups, shifts
+from .image_groups import LEVEL_5, LEVEL_6, connected
 from .images import Image
 from .relations import Relations
 from .shifts import ALIGNED, Distances
@@ -118,15 +118,15 @@ def tied(ties: Ties, images: Sequence[Image], way: Sequence[int], end: int) -> l
     """What ties all of these images in some rows, where the data of each begin so much further."""
     last = min(end, *(image.sectors for image in images)) - max(way)
     told = ties.told([image.number for image in images], 0, last, way)
-    return [it for it in told.known if len(it.family.images) == len(images) and it.family.level in (LEVEL_5, LEVEL_6)]
+    return [it for it in told.known if len(it.group.images) == len(images) and it.group.level in (LEVEL_5, LEVEL_6)]
 
 
 def begin_of(ties: Ties, numbers: Sequence[int], way: Sequence[int], known: Known) -> int:
-    """The first row of a family behind the last one in which nothing is tied before a row with a tie of all images. What stands before the data may
-    be tied by chance, as metadata are that are the same on two images."""
-    begin = known.family.first if known.begin is None else known.begin
-    first, last = begin, known.family.last
-    for near in range(PASSES if known.family.parity else 0):
+    """The first row of a group behind the last one in which nothing is tied before a row with a tie of all images. What stands before the data
+    may be tied by chance, as metadata are that are the same on two images."""
+    begin = known.group.first if known.begin is None else known.begin
+    first, last = begin, known.group.last
+    for near in range(PASSES if known.group.parity else 0):
         found = ties.relations(numbers, first, last + 1, max(1, (last - first) // MOST_ROWS), way)
         told = behind_loose(found, frozenset(numbers), near > 0) if found else None
         if told is None:
@@ -139,7 +139,7 @@ def begin_of(ties: Ties, numbers: Sequence[int], way: Sequence[int], known: Know
 def behind_loose(found: Relations, images: frozenset[int], near: bool) -> tuple[int, int] | None:
     """The last row in which something stands and nothing is tied, before the first row with a tie of all images, or `near` it before the last row;
     and the first that is tied behind it. None where there is no such row."""
-    whole = (place for place, it in enumerate(found.rows) if images == families.tied_images(it.ties))
+    whole = (place for place, it in enumerate(found.rows) if images == image_groups.tied_images(it.ties))
     end = len(found.rows) if near else next(whole, 0)
     loose = [place for place, it in enumerate(found.rows[:end]) if not it.ties and it.zero != images]
     tied_row = next((it.first for it in found.rows[loose[-1] + 1:] if it.ties), None) if loose else None
@@ -156,7 +156,7 @@ def look(ties: Ties, images: Sequence[Image], found: Distances, end: int, named:
         if time.monotonic() > until:
             break
         for known in tied(ties, images, way, end):
-            if known.family.parity:
+            if known.group.parity:
                 return begun(ties, images, way, known, named)
             if agreed is not None and tuple(agreed[image.number] for image in images) == way:
                 perhaps.append((way, known))
@@ -167,7 +167,7 @@ def begun(ties: Ties, images: Sequence[Image], way: Sequence[int], known: Known,
     """The offsets of images whose data begin so much further than those of another, by where these may begin."""
     begin = begin_of(ties, [image.number for image in images], way, known)
     return [Unlike(tuple(first + further for further in way), dataclasses.replace(known, begin=begin - first))
-            for first in beginnings(images, way, begin, named, not known.family.parity)]
+            for first in beginnings(images, way, begin, named, not known.group.parity)]
 
 
 def guessed(images: Sequence[Image], found: Sequence[shifts.Shift]) -> tuple[int, ...]:
@@ -180,5 +180,5 @@ def guessed(images: Sequence[Image], found: Sequence[shifts.Shift]) -> tuple[int
 
 
 def barely_tied(known: Iterable[Known]) -> bool:
-    """Nothing but few rows tie the images of these families, as of those of which some begin at the same sector and others do not."""
-    return all(it.family.level in (LEVEL_5, LEVEL_6) and not it.family.parity for it in known)
+    """Nothing but few rows tie the images of these groups, as of those of which some begin at the same sector and others do not."""
+    return all(it.group.level in (LEVEL_5, LEVEL_6) and not it.group.parity for it in known)

@@ -17,7 +17,7 @@ from ..errors import OutsideError, said
 from ..evidence import copies as copying
 from ..evidence import stopped as early_ends
 from ..evidence import gathered, hints, metadata, places, sampling, shared, shifts, ties, unlike
-from ..evidence.families import LEVEL_5, LEVEL_6
+from ..evidence.image_groups import LEVEL_5, LEVEL_6
 from ..evidence.images import Image
 from ..evidence.places import Places
 from ..evidence.relations import Relations
@@ -147,9 +147,9 @@ class Evident:
             return self.by_metadata(part)
         twins = {image.like: image.number for image in self.search.images if image.like is not None}
         self.say("relation", ties.lines(found, twins))
-        self.copied_pairs = [pair for it in found.known for pair in it.family.copies]
-        self.search.stale |= {old.image for it in found.known for old in it.family.old}
-        self.search.reshapes += [it.family.reshape for it in found.known if it.family.reshape and it.family.reshape not in self.search.reshapes]
+        self.copied_pairs = [pair for it in found.known for pair in it.group.copies]
+        self.search.stale |= {old.image for it in found.known for old in it.group.old}
+        self.search.reshapes += [it.group.reshape for it in found.known if it.group.reshape and it.group.reshape not in self.search.reshapes]
         ways = plain.perhaps_copied, plain.tied, plain.copied, plain.untied
         perhaps, tied, copied, untied = (of(found, part.images, part.span, self.options) for of in ways)
         copied, alike = plain.without_each(copied, plain.doubtful(found)), plain.without_each(self.alike(part), [] if tied else self.without_like())
@@ -206,7 +206,7 @@ class Evident:
         """What is tried of images that nothing ties, where distances tell that their data begin at unlike sectors, or that they are copies which lie
         elsewhere on the next disk; the former too of images of which some are tied to nothing, where as many disks of the others are lost, or few
         rows tie these."""
-        lost = sum(it.family.lost or 0 for it in found.known)
+        lost = sum(it.group.lost or 0 for it in found.known)
         if not found.asked or found.known and not (found.alone and (len(found.alone) <= lost or unlike.barely_tied(found.known))):
             return []
         images, span = [self.search.images[number] for number in part.images], part.span
@@ -280,8 +280,8 @@ class Evident:
         self.search.take(scope, told, listing.sets, lambda it: (None if word.copying else word, scope.word(it.text)))
 
     def with_all(self, scope: Scope, target: Target, unsound: Unsound, before: int) -> bool:
-        """The steps of a target with all images of the family in slots, where rows may be bad, unless such a candidate has a rating already: what
-        leaves some out may be whole too, and does not say that these are old. It says whether there is such a candidate."""
+        """The steps of a target with all images of the group in slots, where rows may be bad, unless such a candidate has a rating already:
+        what leaves some out may be whole too, and does not say that these are old. It says whether there is such a candidate."""
         if self.has_all(unsound, before):
             return True
         search, why = self.search, self.search.why
@@ -297,7 +297,7 @@ class Evident:
         return found
 
     def has_all(self, unsound: Unsound, before: int) -> bool:
-        """A candidate that was tested since has a rating, with all images of a family in slots."""
+        """A candidate that was tested since has a rating, with all images of a group in slots."""
         return any(it.score >= Score.CHECKED and set(unsound.images) <= set(it.word.images) for it in self.since(before))
 
     def relax(self, it: Later) -> bool:

@@ -9,7 +9,7 @@ from ..calls.formats import Page, Ranked
 from ..calls.program import MOST_LINES, Copied, Listing
 from ..calls.sets import FAR, MOST_COPIES, NEAR, NEAR_2, OFFSET, Copying, read_word
 from ..evidence import shifts
-from ..evidence.families import CHUNKS, connected
+from ..evidence.image_groups import CHUNKS, connected
 from ..evidence.gathered import Evidence, Pairs
 from ..evidence.images import Image
 from .scope import Scope

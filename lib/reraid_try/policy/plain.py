@@ -5,7 +5,7 @@ from collections.abc import Iterable, Iterator, Sequence
 
 from ..calls.sets import LEVELS, read_word
 from ..evidence import metadata, shifts, ties
-from ..evidence.families import COPIES, LEVEL_5, Family
+from ..evidence.image_groups import COPIES, LEVEL_5, ImageGroup
 from ..evidence.gathered import MOST_WINDOW
 from ..evidence.images import Image
 from ..evidence.metadata import Member
@@ -37,7 +37,7 @@ class Span:
 
 @dataclasses.dataclass(frozen=True)
 class Unsound:
-    """All images of a family, and their shape, where some rows of these may be bad: what ties leave out in few rows is no old disk then."""
+    """All images of a group, and their shape, where some rows of these may be bad: what ties leave out in few rows is no old disk then."""
 
     images: tuple[int, ...]
     shape: Shape
@@ -81,29 +81,30 @@ class Target:
         return ("mode", "each") in self.asked
 
 
-def shapes_of(family: Family) -> Iterator[Shape]:
+def shapes_of(group: ImageGroup) -> Iterator[Shape]:
     """The shapes of images that parity ties: with as many disks lost as most rows say, and then with as many as others do. Where rows are not tied
     though most are, one of the disks may be old; where the ties are too few to tell level 6 from 5, both are tried."""
-    images, level = len(family.current), family.level or ""
-    for parity in (family.parity, *family.others):
-        lost = family.lost_with(parity)
+    images, level = len(group.current), group.level or ""
+    for parity in (group.parity, *group.others):
+        lost = group.lost_with(parity)
         if lost is not None and lost <= LEVELS[level].parity:
             yield Shape(level, images + lost, lost)
-    if family.is_either:
+    if group.is_either:
         yield Shape(LEVEL_5, images + 1, 1)
-    lost = family.lost
-    if family.loose and lost is not None and lost < LEVELS[level].parity:
+    lost = group.lost
+    if group.loose and lost is not None and lost < LEVELS[level].parity:
         yield Shape(level, images + lost, lost + 1, 1)
 
 
-def unsound_of(family: Family, options: Options) -> Unsound | None:
-    """All images of a family that ties leave some of out, or leave untied, in few rows; None where they do in many, or parity tells nothing then."""
-    level = family.level or ""
-    out, lost = family.loose + sum(it.rows for it in family.old), max(0, LEVELS[level].parity - family.parity)
-    if not out or FEW_LEFT_OUT * out > family.rows or lost >= LEVELS[level].parity:
+def unsound_of(group: ImageGroup, options: Options) -> Unsound | None:
+    """All images of a group that ties leave some of out, or leave untied, in few rows; None where they do in many, or parity tells nothing
+    then."""
+    level = group.level or ""
+    out, lost = group.loose + sum(it.rows for it in group.old), max(0, LEVELS[level].parity - group.parity)
+    if not out or FEW_LEFT_OUT * out > group.rows or lost >= LEVELS[level].parity:
         return None
-    found = allowed([Shape(level, len(family.images) + lost, lost)], options)
-    return Unsound(family.images, found[0]) if found else None
+    found = allowed([Shape(level, len(group.images) + lost, lost)], options)
+    return Unsound(group.images, found[0]) if found else None
 
 
 def allowed(shapes: Iterable[Shape], options: Options) -> tuple[Shape, ...]:
@@ -114,10 +115,10 @@ def allowed(shapes: Iterable[Shape], options: Options) -> tuple[Shape, ...]:
 
 def target_of(known: Known, span: Span, options: Options) -> Target:
     """What is tried of images that parity ties."""
-    family = known.family
-    why = f"{ties.named(family.images)}: {ties.lost_line(family)}"
-    return Target(family.current, span, why, allowed(shapes_of(family), options), chunks(known.chunk), tied=True, begin=known.begin,
-                  unsound=unsound_of(family, options))
+    group = known.group
+    why = f"{ties.named(group.images)}: {ties.lost_line(group)}"
+    return Target(group.current, span, why, allowed(shapes_of(group), options), chunks(known.chunk), tied=True, begin=known.begin,
+                  unsound=unsound_of(group, options))
 
 
 def chunks(chunk: int | None) -> tuple[tuple[str, str], ...]:
@@ -128,8 +129,8 @@ def chunks(chunk: int | None) -> tuple[tuple[str, str], ...]:
 def unlike_target(found: Unlike, numbers: Sequence[int], span: Span, options: Options) -> Target:
     """What is tried of images whose data begin at unlike sectors."""
     asked = (("mode", "each"), ("offsets", listed(found.offsets)), ("window", str(EACH_WINDOW)), *chunks(found.known.chunk))
-    why = f"{found.line()}: {ties.lost_line(found.known.family)}"
-    return Target(tuple(numbers), span, why, allowed(shapes_of(found.known.family), options), asked, tied=True,
+    why = f"{found.line()}: {ties.lost_line(found.known.group)}"
+    return Target(tuple(numbers), span, why, allowed(shapes_of(found.known.group), options), asked, tied=True,
                   begin=found.known.begin, moved=found.offsets)
 
 
@@ -175,19 +176,19 @@ def named_target(members: Sequence[Member], span: Span, options: Options, images
 
 
 def tied(told: Told, _numbers: Sequence[int], span: Span, options: Options) -> list[Target]:
-    """What is tried of each family that parity ties, the largest first."""
-    return [target for it in told.known if it.family.level in LEVELS and (target := target_of(it, span, options)).shapes]
+    """What is tried of each group that parity ties, the largest first."""
+    return [target for it in told.known if it.group.level in LEVELS and (target := target_of(it, span, options)).shapes]
 
 
 def copied(told: Told, numbers: Sequence[int], span: Span, options: Options) -> list[Target]:
     """What is tried of images of which some are copies: RAID 10 of all of them."""
-    return copied_by((it for it in told.known if it.family.level == COPIES), numbers, span, options)
+    return copied_by((it for it in told.known if it.group.level == COPIES), numbers, span, options)
 
 
 def perhaps_copied(told: Told, numbers: Sequence[int], span: Span, options: Options) -> list[Target]:
     """What is tried where two images hold the same in fewer rows: RAID 10 of all, with few missing before anything else, since such copies are soon
     looked for, and with more."""
-    found = copied_by((it for it in told.known if it.family.may_be_copies), numbers, span, options)
+    found = copied_by((it for it in told.known if it.group.may_be_copies), numbers, span, options)
     return [dataclasses.replace(target, missing=missing) for target in found for missing in (FEW_MISSING, MORE_MISSING)]
 
 
@@ -202,7 +203,7 @@ def copied_by(known: Iterable[Known], numbers: Sequence[int], span: Span, option
 def doubtful(told: Told) -> list[int]:
     """The images that may be none of a RAID 10 of which others are copies: one that nothing ties may be foreign, and one of three that hold the same
     a bad copy."""
-    several = sorted(image for it in told.known if it.family.level == COPIES and len(it.family.images) > 2 for image in it.family.images)
+    several = sorted(image for it in told.known if it.group.level == COPIES and len(it.group.images) > 2 for image in it.group.images)
     return [*told.alone, *several]
 
 
@@ -222,7 +223,7 @@ def halves_targets(told: Told, images: Sequence[Image], span: Span, options: Opt
     """What is tried where two images hold the same in most rows and not in all, beside others: RAID 10 without each of the two in turn, since one
     may be an older state of the other, as a stale copy is, or a disk that was imaged twice."""
     same = {frozenset((image.number, image.like)) for image in images if image.like is not None}
-    known = [it.family for it in told.known if it.family.level == COPIES and len(it.family.images) == 2]
+    known = [it.group for it in told.known if it.group.level == COPIES and len(it.group.images) == 2]
     halves = tuple((one, other) for one, other in (it.images for it in known) if frozenset((one, other)) not in same)
     if not halves or len(images) <= LEAST_STRIPED or span.partition or not options.wants(COPIES):
         return []
@@ -247,7 +248,7 @@ def silent(told: Told, numbers: Sequence[int], options: Options) -> tuple[Shape,
     """The shapes at which parity tells nothing of images that nothing ties. That some hold the same in few rows ties none: parity is what another
     disk holds where the others are zeros."""
     count = len(numbers)
-    if not told.asked or any(it.family.level != COPIES or it.family.copies for it in told.known):
+    if not told.asked or any(it.group.level != COPIES or it.group.copies for it in told.known):
         return ()
     return allowed([Shape("0", count), Shape("5", count + 1, 1), Shape("6", count + 2, 2)], options)
 

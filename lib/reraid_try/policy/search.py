@@ -21,7 +21,7 @@ from ..checks.volumes import Room
 from ..errors import OutsideError, Refused, Stopped, said
 from ..evidence import amounts, fills
 from ..evidence import images as seen
-from ..evidence.families import Reshape
+from ..evidence.image_groups import Reshape
 from ..evidence.images import Image
 from ..evidence.surveying import Shared
 from ..evidence.ties import Ties, Told

@@ -22,12 +22,12 @@ def targets(short: Sequence[Image], told: Told, span: Span, images: Sequence[Ima
     out = {image.number for image in short}
     found = []
     for known in told.known:
-        family, level = known.family, known.family.level or ""
-        rest = tuple(number for number in family.current if number not in out)
-        gone = len(family.current) - len(rest)
-        if not gone or level not in LEVELS or family.lost is None or family.lost + gone > LEVELS[level].parity:
+        group, level = known.group, known.group.level or ""
+        rest = tuple(number for number in group.current if number not in out)
+        gone = len(group.current) - len(rest)
+        if not gone or level not in LEVELS or group.lost is None or group.lost + gone > LEVELS[level].parity:
             continue
-        shape = Shape(level, len(family.current) + family.lost, family.lost + gone)
+        shape = Shape(level, len(group.current) + group.lost, group.lost + gone)
         shapes = plain.allowed([shape], options)
         end = span.end if span.partition else min(image.sectors for image in images if image.number in rest)
         why = "without images that end early, which the level tolerates, so that the volume is whole"

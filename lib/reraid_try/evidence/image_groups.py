@@ -12,8 +12,9 @@ from .relations import Relations, Rows, Tie
 
 # Two images belong together where ties hold both in so many rows at least, and in one of so many in which neither is zeros.
 LEAST_TIED, FEW_TIED = 4, 50
-# An image that no such ties hold belongs to a family that few rows tie, where it has one in so many ties of the family with an image of it.
-FEW_OF_FAMILY = 10
+# An image that no such ties hold belongs to a group that few rows tie, where it has one in so many ties of the group with an image of
+# it.
+FEW_OF_GROUP = 10
 # Two arrays that hold the same at some places are tied apart in so many times as many rows at least as across.
 PART_ACROSS = 2
 # So much of what is tied has weights of 1 alone at level 5. A number of ties that one in so many rows has, and not most, is possible too.
@@ -46,7 +47,7 @@ class Old:
                 "the others without it")
 
     def closer(self, relations: Relations, images: frozenset[int]) -> "Old":
-        """The same, by the rows just before the first one, which lie closer to each other; `images` are those of the family."""
+        """The same, by the rows just before the first one, which lie closer to each other; `images` are those of the group."""
         found = (rows.first for rows in relations.tied_rows() if not rows.zero & images
                  and tied_images(ties_among(rows, images)) == images - {self.image})
         return dataclasses.replace(self, first=min(found, default=self.first))
@@ -91,12 +92,12 @@ class Reshape:
 
 
 @dataclasses.dataclass(frozen=True)
-class Family:
+class ImageGroup:
     """Images that belong together. `level` is that of their parity (10 for copies), None where ties do not tell it; `parity` how many ties most of
     the rows have in which no image is zeros, which is how many disks more might be lost were no image old, and `others` what numbers of ties rows
     have besides: more where what is lost is zeros, fewer where rows are bad. `first` and `last` are the first and last row that is tied. `loose`
     counts the rows in which one image at most is zeros and nothing is tied though most are, the first of them at `loose_first`. `copies` are the
-    images of which two hold the same in nearly all rows; images of which two do so in most rows are a family of copies without them."""
+    images of which two hold the same in nearly all rows; images of which two do so in most rows are a group of copies without them."""
 
     images: tuple[int, ...]
     rows: int
@@ -237,11 +238,11 @@ def parted(relations: Relations, images: frozenset[int], tied: Mapping[tuple[int
 
 
 def joining(tied: Mapping[tuple[int, int], int], found: Sequence[frozenset[int]]) -> Iterator[tuple[int, int]]:
-    """The pairs by which an image that is in no family joins one. `tied` has in how many rows ties connect two images."""
+    """The pairs by which an image that is in no group joins one. `tied` has in how many rows ties connect two images."""
     within = frozenset().union(*found)
-    for family in found:
-        least = max(LEAST_TIED, *(-(-count // FEW_OF_FAMILY) for pair, count in tied.items() if family.issuperset(pair)))
-        yield from (pair for pair, count in tied.items() if len(within.intersection(pair)) == len(family.intersection(pair)) == 1 and count >= least)
+    for group in found:
+        least = max(LEAST_TIED, *(-(-count // FEW_OF_GROUP) for pair, count in tied.items() if group.issuperset(pair)))
+        yield from (pair for pair, count in tied.items() if len(within.intersection(pair)) == len(group.intersection(pair)) == 1 and count >= least)
 
 
 @dataclasses.dataclass(frozen=True)
@@ -258,7 +259,7 @@ class Blank:
 
 @dataclasses.dataclass
 class Tally:
-    """What the rows of a family say, by how many of them say it."""
+    """What the rows of a group say, by how many of them say it."""
 
     images: frozenset[int]
     rows: int = 0
@@ -390,7 +391,7 @@ def reshape_of(relations: Relations, images: frozenset[int], parity: int) -> Res
     return None
 
 
-def family_of(relations: Relations, images: frozenset[int]) -> Family:
+def group_of(relations: Relations, images: frozenset[int]) -> ImageGroup:
     """What the rows say of images that belong together."""
     tally, tied = Tally(images), [rows for rows in relations.rows if ties_among(rows, images)]
     # What stands before the first tied row and behind the last one is no part of the array, such as metadata.
@@ -399,15 +400,16 @@ def family_of(relations: Relations, images: frozenset[int]) -> Family:
             tally.add(rows, relations.count(rows))
     copies, first = copies_of(relations, images), tally.first or 0
     if len(copies) >= len(images) // 2 or tally.copied or len(images) == 2 and tally.parity:
-        return Family(tuple(sorted(images)), tally.rows, first, tally.last, COPIES, 0, copies=copies)
+        return ImageGroup(tuple(sorted(images)), tally.rows, first, tally.last, COPIES, 0, copies=copies)
     reshape = reshape_of(relations, images, tally.parity) if tally.parity else None
     old = () if reshape or tally.level != LEVEL_6 else tally.old()
-    return Family(tuple(sorted(images)), tally.rows, first, tally.last, tally.level, tally.parity, old, reshape, tally.others, *tally.loose_rows())
+    return ImageGroup(tuple(sorted(images)), tally.rows, first, tally.last, tally.level, tally.parity, old, reshape, tally.others,
+                      *tally.loose_rows())
 
 
-def families(relations: Relations, images: Iterable[int]) -> list[Family]:
-    """The families among these images, the largest first."""
-    return [family_of(relations, it) for it in belonging(relations, frozenset(images))]
+def image_groups(relations: Relations, images: Iterable[int]) -> list[ImageGroup]:
+    """The groups among these images, the largest first."""
+    return [group_of(relations, it) for it in belonging(relations, frozenset(images))]
 
 
 def borders(relations: Relations, images: frozenset[int]) -> Iterator[int]:

@@ -613,7 +613,7 @@ class Tested(InFolder):
                 self.assertEqual(tests.looked_at(some), some)
                 self.assertEqual((sorted(asked[:9]), sorted(asked[9:])), ([(k, False) for k in range(9)], looked))
                 asked.clear()
-                with mock.patch("reraid_try.checks.tests.MOST_COUNTED", 7):
+                with mock.patch("reraid_try.checks.tests.MAX_COUNTED", 7):
                     tests.count_late(some)
                 self.assertEqual(sorted(asked), [(k, True) for k in range(8) if k != clean][:7])
                 asked.clear()

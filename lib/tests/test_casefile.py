@@ -207,7 +207,7 @@ class Pages(unittest.TestCase):
         self.assertNotIn("examiner", self.made(("run", "", run | {"case": "", "examiner": ""})))
 
     def test_files_that_touch_what_is_lost(self) -> None:
-        files = [f"/{number}" for number in range(page.MOST_FILES + 3)]
+        files = [f"/{number}" for number in range(page.MAX_FILES + 3)]
         said = self.made(("lost files", "candidate 0: ext4: 9 sectors of it are lost", {"class": 0, "files": files}))
         self.assertIn("Files that touch lost sectors candidate 0: ext4: 9 sectors of it are lost /0 /1 ", said)
         self.assertTrue("/499 and 3 more" in said and "/500" not in said)

@@ -198,7 +198,7 @@ class Asked(InFolder):
         for told, why in ((["unread"] * 11 + ["stored"], Why.UNREAD), (["unread"] * 10 + ["stored"], Why.STORED), (["untold"], Why.UNTOLD),
                           (["untold", "unread"], Why.UNREAD), (["untold", "stored"], Why.STORED)):
             answers = iter([Why(word) for word in told])
-            with mock.patch.object(fills, "of_run", lambda *_: next(answers)), mock.patch.object(fills, "MOST_PLACES", len(told)):
+            with mock.patch.object(fills, "of_run", lambda *_: next(answers)), mock.patch.object(fills, "MAX_PLACES", len(told)):
                 here = held(*((2 * sector, BAD) for sector in range(len(told))))
                 self.assertIs(fills.asked(cast(Ties, None), images, known, 0, here), why)
         with mock.patch.object(fills, "of_run", side_effect=[Why.UNREAD] * 7) as of_run:

@@ -39,8 +39,8 @@ class Marks(unittest.TestCase):
         self.assertEqual(gathering.thinned({5, 1, 3}), [1, 3, 5])
 
     def test_many(self) -> None:
-        found = gathering.thinned(range(10 * gathering.MOST_MARKS))
-        self.assertEqual((len(found), found[:3]), (gathering.MOST_MARKS, [0, 10, 20]))
+        found = gathering.thinned(range(10 * gathering.MAX_MARKS))
+        self.assertEqual((len(found), found[:3]), (gathering.MAX_MARKS, [0, 10, 20]))
 
 
 class Regions(unittest.TestCase):

@@ -311,7 +311,7 @@ class Holes(Here):
         images = [Image(name, number, 2 * far, first=5000, last=far) for number, name in enumerate(names)]
         self.assertFalse(equal(images[0], images[1], 16 * GIB))
         self.assertFalse(equal(images[0], images[2], 16 * GIB))
-        with mock.patch.object(images_module, "MOST_COMPARED", 2500 << 10), mock.patch.object(images_module, "MORE_SAMPLES", 64):
+        with mock.patch.object(images_module, "MAX_COMPARED", 2500 << 10), mock.patch.object(images_module, "MORE_SAMPLES", 64):
             self.assertTrue(equal(dataclasses.replace(images[0], sectors=far), dataclasses.replace(images[2], sectors=far), 16 * GIB))
 
 
@@ -329,7 +329,7 @@ class Last(Here):
                 return file.read(count)
             counted = mock.Mock(wraps=file)
             counted.read = counting
-            with mock.patch.multiple(reading, MOST_BACK=8 * MIB, STEPS=64), \
+            with mock.patch.multiple(reading, MAX_BACK=8 * MIB, STEPS=64), \
                     mock.patch.object(reading, "data_runs", lambda _file, first, last: iter([(first, last)])):
                 found = reading.last_data(counted, 0, size)
                 assert found is not None

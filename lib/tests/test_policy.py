@@ -602,7 +602,7 @@ class Scopes(InFolder):
             shape, request = Shape("5", 3), scope.asking.request(Shape("5", 3))
             plan = scope.to_list(shape, request)
             assert plan
-            with mock.patch("reraid_try.policy.scope.MOST_LINES", most):
+            with mock.patch("reraid_try.policy.scope.MAX_LINES", most):
                 self.assertFalse(scope.listing(shape, request, plan).whole)
             self.assertEqual((scope.cut_short, scope.to_list(shape, request)), ({plan.text()} if again else set(), None))
             scope.ask_again()

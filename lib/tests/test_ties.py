@@ -83,10 +83,10 @@ class Told(unittest.TestCase):
         self.assertEqual(runner.asked[0], ["reraid", "relations", "from=0", "end=300", "step=1", "--", "1.img", "2.img", "3.img"])
 
     def test_step(self) -> None:
-        """No more rows are asked for than `MOST_ROWS`."""
+        """No more rows are asked for than `MAX_ROWS`."""
         runner, images = disks([[ZERO, ZERO]])
         runner.answer = Answer(0, b"alone 0,1\nfree 0 of 0\n")
-        Ties(runner, images, 9).told((0, 1), 100, 100 + 10 * ties.MOST_ROWS + 1)
+        Ties(runner, images, 9).told((0, 1), 100, 100 + 10 * ties.MAX_ROWS + 1)
         self.assertIn("step=11", runner.asked[0])
 
     def test_rows_are_read_once(self) -> None:
@@ -152,7 +152,7 @@ class Told(unittest.TestCase):
         made[1206] = [*empty[:4], empty[0]]
         runner, images = disks(made)
         for offsets, since in (((), 1207), ((8, 8, 8, 8, 8), 1199)):
-            with mock.patch.object(ties, "MOST_ROWS", 100):
+            with mock.patch.object(ties, "MAX_ROWS", 100):
                 known, = Ties(runner, images, 9).told(range(5), 0, 2900, offsets).known
             self.assertEqual([(it.image, it.first) for it in known.group.old], [(3, since)])
         runner.answer = Answer(None)
@@ -163,7 +163,7 @@ class Told(unittest.TestCase):
         rnd = random.Random(12)
         before, after = rows.striped(rnd, 5, 5, 3001), rows.striped(rnd, 4, 5, 6000)
         runner, images = disks(before + rows.beside(after, [[ZERO]] * len(after)))
-        with mock.patch.object(ties, "MOST_ROWS", 100):
+        with mock.patch.object(ties, "MAX_ROWS", 100):
             known, = Ties(runner, images, 9).told(range(5), 0, 9001).known
         assert known.group.reshape
         self.assertEqual((known.group.reshape.last, known.group.reshape.sector), (3000, 3001))
@@ -326,7 +326,7 @@ class UnlikeOffsets(unittest.TestCase):
         self.assertEqual(list(unlike.chosen([[1, 2], [3, 4, 5]], 1)), [(1, 4), (2, 3)])
         self.assertEqual(list(unlike.chosen([[1, 2], [3, 4, 5]], 3)), [(2, 5)])
         many = [Image(f"{number}.img", number, 464, first=8 * number) for number in range(9)]
-        self.assertEqual(len(unlike.ways(many, Distances((Shift(0, 1, 8, 40),)), {})), unlike.MOST_WAYS)
+        self.assertEqual(len(unlike.ways(many, Distances((Shift(0, 1, 8, 40),)), {})), unlike.MAX_WAYS)
 
     def test_guessed(self) -> None:
         """Distances that agree say the offsets, with the beginning that an image tells; not where they say nothing of one image or one number."""

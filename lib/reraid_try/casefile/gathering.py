@@ -11,7 +11,7 @@ from ..errors import OutsideError, said
 from ..evidence.images import Image
 from ..evidence.maps import Map
 from ..evidence.relations import Relations
-from ..evidence.ties import MOST_ROWS, Ties
+from ..evidence.ties import MAX_ROWS, Ties
 from ..opening import Opened
 from ..options import LEVELS, Options
 from ..policy.search import Search
@@ -22,7 +22,7 @@ from .strips import Hashing, Strip
 from .writing import PageFile
 
 # So many landmarks of a kind on an image are drawn; more are thinned out.
-MOST_MARKS = 2000
+MAX_MARKS = 2000
 # What this search knows nothing of.
 UNKNOWN = "not searched at all: RAID 10 with near and far copies at once or with far_sets, RAID 50 and 60 as one array. Also not: RAID 5E and the " \
           "like, arrays in mid-reshape, RAID 0 over disks of unequal size"
@@ -44,7 +44,7 @@ def unread(it: Map | None, sectors: int) -> list[list[int]]:
 
 def thinned(places: Collection[int]) -> list[int]:
     """Places in order, at even distances in their list where they are many."""
-    step = max(1, -(-len(places) // MOST_MARKS))
+    step = max(1, -(-len(places) // MAX_MARKS))
     return sorted(places)[::step]
 
 
@@ -121,7 +121,7 @@ class Casefile:
         """How the images depend on one another, row by row; nothing where that is not to be had."""
         self.report.bar.show("tests which images parity matches")
         end = min(image.sectors for image in images)
-        step = max(1, -(-end // MOST_ROWS))
+        step = max(1, -(-end // MAX_ROWS))
         found = Ties(self.commands, images, self.options.seconds).relations([image.number for image in images], 0, end, step)
         if found:
             self.report.tell("relations", **fields(found))

@@ -10,7 +10,7 @@ from .record import Event, Record
 from .style import STYLE
 
 # How high unsound rows are drawn at least, of HEIGHT, so that they are seen.
-LEAST_UNSOUND = 20
+MIN_UNSOUND = 20
 ABOUT = """This page reports what one run of reraid-try read, tried and found. reraid-try only reads the images. It does not choose between
 candidates: each listed layout passed the tests that are named beside it."""
 RATINGS = """++: long files are intact or all data checksums match, and no file system checker reports errors. +: only a checker reports no errors, or
@@ -38,7 +38,7 @@ HEAD = """<!DOCTYPE html>
 """
 WHOLE = "M0 0h22v14h-22z"
 # The most names of files that stand in a list.
-MOST_FILES = 500
+MAX_FILES = 500
 # The lines above what is to be typed, and above what ends that.
 TYPED, ENDS = "to mount it read-only, as root:", "to undo that:"
 # The events that say what was taken from the images, and those that say what was not tried or not to its end.
@@ -111,8 +111,8 @@ class Page:
     def lost_files(self) -> str:
         """Return which files of the best volume touch what is lost."""
         told = [(it["text"], it["files"]) for it in self.record.of("lost files")]
-        more = [[f"and {len(files) - MOST_FILES:,} more"] * (len(files) > MOST_FILES) for _, files in told]
-        made = (f"<p>{text(said)}</p>" + bullets([*files[:MOST_FILES], *rest]) for (said, files), rest in zip(told, more))
+        more = [[f"and {len(files) - MAX_FILES:,} more"] * (len(files) > MAX_FILES) for _, files in told]
+        made = (f"<p>{text(said)}</p>" + bullets([*files[:MAX_FILES], *rest]) for (said, files), rest in zip(told, more))
         return section("Files that touch lost sectors", *made) if told else ""
 
     def answer(self) -> str:
@@ -195,7 +195,7 @@ class Page:
     def region(self, it: Event) -> list[Bar]:
         """The bars of a region: its unsound rows above, the others below."""
         first, last = it["first"], it["first"] + it["rows"]
-        bad = max(LEAST_UNSOUND, HEIGHT * it["unsound"] // it["tested"]) if it["unsound"] else 0
+        bad = max(MIN_UNSOUND, HEIGHT * it["unsound"] // it["tested"]) if it["unsound"] else 0
         return ([Bar(first, last, "sound", HEIGHT - bad)] if bad < HEIGHT else []) + ([Bar(first, last, "unsound", bad, HEIGHT - bad)] if bad else [])
 
     def nearest(self) -> str:

@@ -10,7 +10,7 @@ from ..calls.sets import Word, made
 from ..checks.candidates import Candidate
 
 # So many parts, and so many rows of each; of fewer parts more rows of each, as many in all.
-PARTS, MOST_ROWS = 64, 2048
+PARTS, MAX_ROWS = 64, 2048
 
 
 @dataclasses.dataclass(frozen=True)
@@ -63,7 +63,7 @@ def regions(it: Candidate, jobs: int) -> list[Region]:
 
 def rows_of_each(parts: int) -> int:
     """How many rows of each of so many parts are tested at most."""
-    return PARTS * MOST_ROWS // max(1, parts)
+    return PARTS * MAX_ROWS // max(1, parts)
 
 
 def windowed(plan: Plan, rows: int) -> Plan:

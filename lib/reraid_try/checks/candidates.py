@@ -12,13 +12,13 @@ from ..policy.steps import Step
 from .verdicts import Score, Verdict
 
 # A set of which more than one in so many filled rows is unsound is doubtful.
-MOST_UNSOUND = 2
+MAX_UNSOUND = 2
 # Why a set has no rating that marks speak against.
 AGAINST = "some landmarks contradict it, and no file that was found is intact"
 # What is said where a volume at level 0 ends too soon and its images differ in length.
 UNEQUAL = "the images differ in length, and RAID 0 that continues on only the longer disks is not searched"
 # So many sets of one volume are said in words.
-MOST_ALIKE = 3
+MAX_ALIKE = 3
 
 
 @dataclasses.dataclass(frozen=True)
@@ -107,13 +107,13 @@ class Candidate:
     @property
     def alike_said(self) -> str:
         """The sets that its volume does not tell from it; nothing where there are none."""
-        more = f" and {len(self.alike) - MOST_ALIKE} more" if len(self.alike) > MOST_ALIKE else ""
-        return f"same volume, cannot be told apart: {' '.join(self.alike[:MOST_ALIKE])}{more}" if self.alike else ""
+        more = f" and {len(self.alike) - MAX_ALIKE} more" if len(self.alike) > MAX_ALIKE else ""
+        return f"same volume, cannot be told apart: {' '.join(self.alike[:MAX_ALIKE])}{more}" if self.alike else ""
 
     @property
     def mostly_unsound(self) -> bool:
         """Most of the filled rows are unsound, as far as was asked."""
-        return MOST_UNSOUND * (self.unsound or 0) > self.scope.evidence.filled
+        return MAX_UNSOUND * (self.unsound or 0) > self.scope.evidence.filled
 
     @property
     def doubtful(self) -> bool:

@@ -11,7 +11,7 @@ from .joints import duel
 from .verdicts import Score
 
 # So many sets of a step are looked at without images, those with the fewest unsound rows.
-MOST_SETS = 3
+MAX_SETS = 3
 # With so many images to spare parity tells which are bad.
 TELLING = 2
 
@@ -22,7 +22,7 @@ def doubted(tested: Sequence[Candidate], mapped: bool) -> list[Candidate]:
     found = [it for it in tested if it.unsound and not it.mostly_unsound and it.listed and len(it.word.offsets) == 1 and it.word.spare > 0]
     if any(it.score is Score.WHOLE for it in tested):
         found = [it for it in found if it.score is Score.WHOLE and not mapped]
-    return sorted(found, key=lambda it: (it.unsound or 0, it.order))[:MOST_SETS]
+    return sorted(found, key=lambda it: (it.unsound or 0, it.order))[:MAX_SETS]
 
 
 def blamed(candidate: Candidate, counts: Mapping[int, int]) -> list[int]:

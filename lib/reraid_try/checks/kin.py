@@ -6,7 +6,7 @@ from collections.abc import Hashable, Mapping, Sequence
 
 from ..calls.sets import LAST_Q, STAYS, Word, simplest
 from ..evidence.images import Image
-from ..policy.plans import LEAST_BAD, MOST_BAD
+from ..policy.plans import MIN_BAD, MAX_BAD
 from ..units import SECTOR, counted
 from . import rivals
 from .candidates import Candidate, Inside
@@ -121,7 +121,7 @@ def rivalled(it: Candidate, other: Candidate, same: Mapping[int, int]) -> str:
     if it.score is Score.CHECKED:
         return CONTENT
     bad = (it.unsound or 0) - (other.unsound or 0)
-    return UNSOUND if bad > max(LEAST_BAD, it.scope.evidence.filled // MOST_BAD) else ""
+    return UNSOUND if bad > max(MIN_BAD, it.scope.evidence.filled // MAX_BAD) else ""
 
 
 def has_as_much(one: Candidate, other: Candidate) -> bool:

@@ -19,9 +19,9 @@ from .candidates import Candidate
 SLOW = 3
 # A set with more than one in so many filled rows unsound has no image that is but old or damaged; of an image that ties name as old so much of the
 # filled rows may be.
-MOST_OLD, MOST_STALE = 2, Fraction(9, 10)
+MAX_OLD, MAX_STALE = 2, Fraction(9, 10)
 # So many marks fit before a row, and so many do not behind it, where an array was reshaped up to there.
-LEAST_TURNED = 3
+MIN_TURNED = 3
 
 
 @dataclasses.dataclass
@@ -187,9 +187,9 @@ class Rows:
             return []
         images, found = self.scope.evidence.images, list[Old]()
         for place in sorted(set(range(len(images))) - set(word.images)):
-            found += self.at_slots(word, place, images[place], request, Fraction(1, MOST_OLD))
+            found += self.at_slots(word, place, images[place], request, Fraction(1, MAX_OLD))
         for image in stale:
-            slots = Rows(self.scope, image).at_slots(word, len(images), image, request, MOST_STALE)
+            slots = Rows(self.scope, image).at_slots(word, len(images), image, request, MAX_STALE)
             # Ties of the others name it, so it is the one.
             found += [dataclasses.replace(it, blamed=True) for it in sorted(slots, key=lambda it: it.told.unsound)[:1]]
         return found
@@ -215,7 +215,7 @@ class Rows:
         """The row before which the marks of a group fit and behind which none does; None for most sets."""
         word = read_word(near.word)
         for place, held in enumerate(near.groups):
-            if held.origin is None or min(held.fits, held.misfits) < LEAST_TURNED:
+            if held.origin is None or min(held.fits, held.misfits) < MIN_TURNED:
                 continue
             group = near.plan.groups[place]
             alone = dataclasses.replace(near.plan, groups=(group,)).having(origins=held.origin, misfits=held.misfits, window=1, badrows=1)

@@ -21,11 +21,11 @@ from .ties import Ties, Told, step_of
 
 # A text of which parity tells nothing counts where it fills so many sectors. Ties are asked in so many places of a text, and so many rows of each;
 # of so many of these places one may speak against it.
-LEAST_UNTOLD, MOST_PLACES, MOST_ROWS, FEW_STORED = 8, 8, 16, 10
+MIN_UNTOLD, MAX_PLACES, MAX_ROWS, FEW_STORED = 8, 8, 16, 10
 # Parity tells of so many images at least. An old disk breaks parity in many rows: in so many rows more, and in so many times as many, as texts do.
-LEAST_TELLING, FEW_LOOSE, MOST_LOOSE = 3, 4, 2
+MIN_TELLING, FEW_LOOSE, MAX_LOOSE = 3, 4, 2
 # The most characters of a map that is printed.
-MOST_TYPED = 1000
+MAX_TYPED = 1000
 
 
 class Why(enum.Enum):
@@ -38,7 +38,7 @@ class Why(enum.Enum):
 
 def telling(told: Told) -> list[ImageGroup]:
     """Return the groups whose parity tells whether a sector is right: fewer disks are lost than the level bears."""
-    return [it.group for it in told.known if it.group.level in (LEVEL_5, LEVEL_6) and it.group.parity and len(it.group.current) >= LEAST_TELLING]
+    return [it.group for it in told.known if it.group.level in (LEVEL_5, LEVEL_6) and it.group.parity and len(it.group.current) >= MIN_TELLING]
 
 
 def group_of(found: Iterable[ImageGroup], image: int) -> ImageGroup | None:
@@ -75,7 +75,7 @@ def of_run(ties: Ties, group: ImageGroup, run: tuple[int, int], end: int) -> Why
     beside = range(first - 1 if first else stop, min(stop + 1, end), stop - first + 1)
     if stop > end or not beside:
         return Why.UNTOLD
-    told = in_run(ties.relations(group.current, first, stop, -(-(stop - first) // MOST_ROWS)), frozenset(group.current))
+    told = in_run(ties.relations(group.current, first, stop, -(-(stop - first) // MAX_ROWS)), frozenset(group.current))
     if told is not Why.UNREAD:
         return told
     return told if holds_beside(ties.relations(group.current, beside.start, beside.stop, beside.step), group) else Why.UNTOLD
@@ -86,7 +86,7 @@ def asked(ties: Ties, images: Sequence[Image], found: Iterable[ImageGroup], imag
     group = group_of(found, image)
     if group is None:
         return Why.UNTOLD
-    end, step = min(other.sectors for other in images if other.number in group.current), -(-len(it.runs) // MOST_PLACES)
+    end, step = min(other.sectors for other in images if other.number in group.current), -(-len(it.runs) // MAX_PLACES)
     told = [of_run(ties, group, run, end) for run in it.runs[::step]]
     if told.count(Why.UNREAD) > FEW_STORED * told.count(Why.STORED):
         return Why.UNREAD
@@ -129,7 +129,7 @@ class Fill:
     def remedy(self) -> str:
         """Return how to make a map that calls these sectors unread."""
         target, text = shlex.quote(self.image.called + ".map"), self.map_text.replace("\n", "\\n")
-        if len(text) <= MOST_TYPED:
+        if len(text) <= MAX_TYPED:
             return f"write a mapfile and run again:\n    printf '{text}' > {target}"
         return f"save the mapfile that --json prints in the event fill as {target}, and run again"
 
@@ -143,7 +143,7 @@ class Fill:
 def is_told(it: Fill, alike: int, images: int) -> bool:
     """It is worth a line: parity does not go over the text; or nothing is known of one for people, which stands there over and over or counts on, and
     in fewer images than not."""
-    long = it.held.sectors >= LEAST_UNTOLD and (it.held.text.again or it.held.varies)
+    long = it.held.sectors >= MIN_UNTOLD and (it.held.text.again or it.held.varies)
     return it.why is Why.UNREAD or it.why is Why.UNTOLD and long and it.held.text.has_words and 2 * alike < images
 
 
@@ -164,7 +164,7 @@ def explained(found: Sequence[Fill], group: ImageGroup, step: int) -> bool:
     """Texts are where most rows are in which parity of a group fails, of rows that lie so many sectors apart. Else a disk is old, and parity
     that fails says nothing of a text."""
     rows = sum(it.held.sectors for it in found if it.why is Why.UNREAD and it.image.number in group.current) // step
-    return group.loose <= FEW_LOOSE + MOST_LOOSE * rows
+    return group.loose <= FEW_LOOSE + MAX_LOOSE * rows
 
 
 def told(ties: Ties, images: Sequence[Image], first_bytes: int) -> list[Fill]:

@@ -11,9 +11,9 @@ from . import bcache, reading, tables
 # So many bytes tell what something begins with, and so many sectors.
 HEAD_BYTES = 264 * SECTOR
 # The first superblock of ext: where it stands, in sectors and in bytes, and how large a block is at most, as the power of two of 1,024 bytes.
-EXT_SECTORS, EXT_PLACE, MOST_EXT_BLOCK = 2, 1024, 6
+EXT_SECTORS, EXT_PLACE, MAX_EXT_BLOCK = 2, 1024, 6
 # So many heads are found on one image.
-MOST_HEADS = 64
+MAX_HEADS = 64
 
 
 def always(_: bytes) -> bool:
@@ -26,7 +26,7 @@ def is_ext(sector: bytes) -> bool:
     if len(sector) < SECTOR or sector[56:58] != b"\x53\xef" or sector[90:92] != b"\0\0":
         return False
     code, per_group = struct.unpack_from("<I", sector, 24)[0], struct.unpack_from("<I", sector, 32)[0]
-    return bool(code <= MOST_EXT_BLOCK and 0 < per_group <= 8 * (1024 << code) and struct.unpack_from("<I", sector, 4)[0] > 0)
+    return bool(code <= MAX_EXT_BLOCK and 0 < per_group <= 8 * (1024 << code) and struct.unpack_from("<I", sector, 4)[0] > 0)
 
 
 def is_first_ext(head: bytes) -> bool:
@@ -110,6 +110,6 @@ def find_heads(file: BinaryIO, number: int, last: int) -> tuple[Head, ...]:
                 first = place // SECTOR + sector - behind
                 if first >= 0 and holds(block[sector * SECTOR:(sector + 1) * SECTOR]):
                     found.append(Head(kind, number, first))
-        if len(found) > MOST_HEADS:
+        if len(found) > MAX_HEADS:
             break
     return tuple(found)

@@ -11,7 +11,7 @@ from .dependence import inverse, product
 from .relations import Relations, Rows, Tie
 
 # Two images belong together where ties hold both in so many rows at least, and in one of so many in which neither is zeros.
-LEAST_TIED, FEW_TIED = 4, 50
+MIN_TIED, FEW_TIED = 4, 50
 # An image that no such ties hold belongs to a group that few rows tie, where it has one in so many ties of the group with an image of
 # it.
 FEW_OF_GROUP = 10
@@ -22,12 +22,12 @@ PART_PLAIN, FEW_OTHER = Fraction(4, 5), 10
 # Where so few rows have no image of zeros, all others count: so many ties as nearly all of them have are those of parity.
 FEW_FULL, PART_TIED = 8, Fraction(19, 20)
 # An image is old where it stands outside of the ties of others in so many rows; a reshape stopped where so many stand on either side.
-LEAST_OLD, LEAST_RESHAPED = 4, 8
+MIN_OLD, MIN_RESHAPED = 4, 8
 # Two images are copies where so much of the rows in which one of them is not zeros ties just these two.
 PART_COPIED = Fraction(9, 10)
 CHUNKS = tuple(1 << power for power in range(15, 2, -1))
 # So much of the places where ties change lies at one distance from the borders of chunks of the right length, of so many places at least.
-PART_AT_BORDERS, LEAST_BORDERS = Fraction(9, 10), 4
+PART_AT_BORDERS, MIN_BORDERS = Fraction(9, 10), 4
 
 LEVEL_5, LEVEL_6, COPIES = "5", "6", "10"
 Vector = Mapping[int, int]
@@ -210,7 +210,7 @@ def pair_counts(relations: Relations, images: frozenset[int]) -> tuple[collectio
 def belonging(relations: Relations, images: frozenset[int]) -> list[frozenset[int]]:
     """The sets of images that belong together, the largest first."""
     tied, there = pair_counts(relations, images)
-    strong = [pair for pair, count in tied.items() if count >= LEAST_TIED and FEW_TIED * count >= there[pair]]
+    strong = [pair for pair, count in tied.items() if count >= MIN_TIED and FEW_TIED * count >= there[pair]]
     found = connected([*strong, *joining(tied, connected(strong))])
     return sorted((part for it in found for part in parted(relations, it, tied)), key=lambda it: (-len(it), sorted(it)))
 
@@ -241,7 +241,7 @@ def joining(tied: Mapping[tuple[int, int], int], found: Sequence[frozenset[int]]
     """The pairs by which an image that is in no group joins one. `tied` has in how many rows ties connect two images."""
     within = frozenset().union(*found)
     for group in found:
-        least = max(LEAST_TIED, *(-(-count // FEW_OF_GROUP) for pair, count in tied.items() if group.issuperset(pair)))
+        least = max(MIN_TIED, *(-(-count // FEW_OF_GROUP) for pair, count in tied.items() if group.issuperset(pair)))
         yield from (pair for pair, count in tied.items() if len(within.intersection(pair)) == len(group.intersection(pair)) == 1 and count >= least)
 
 
@@ -313,7 +313,7 @@ class Tally:
     @property
     def copied(self) -> bool:
         """Where more than two images are not zeros most ties hold two that are the same, and parity would hold all of them."""
-        return self.joined >= LEAST_TIED and 2 * self.paired > self.joined
+        return self.joined >= MIN_TIED and 2 * self.paired > self.joined
 
     @property
     def parity(self) -> int:
@@ -347,7 +347,7 @@ class Tally:
             if it.whole and 0 < it.ties < self.parity:
                 found[it.image] += it.rows
                 first[it.image] = min(it.first, first.get(it.image, it.first))
-        return tuple(Old(image, rows, first[image]) for image, rows in sorted(found.items()) if rows >= LEAST_OLD)
+        return tuple(Old(image, rows, first[image]) for image, rows in sorted(found.items()) if rows >= MIN_OLD)
 
     def loose_rows(self) -> tuple[int, int | None]:
         """How many rows in which one image at most is zeros have no tie, and the first of them; none where parity says nothing."""
@@ -367,7 +367,7 @@ def copies_of(relations: Relations, images: frozenset[int]) -> tuple[tuple[int, 
             if tie.plain and len(tie.weights) == 1:
                 same[tie.weights[0][0], tie.image] += count
     return tuple((one, other) for (one, other), count in sorted(same.items())
-                 if {one, other} <= images and count >= LEAST_TIED and count >= PART_COPIED * max(there[one], there[other]))
+                 if {one, other} <= images and count >= MIN_TIED and count >= PART_COPIED * max(there[one], there[other]))
 
 
 def reshape_of(relations: Relations, images: frozenset[int], parity: int) -> Reshape | None:
@@ -385,7 +385,7 @@ def reshape_of(relations: Relations, images: frozenset[int], parity: int) -> Res
         after = [(first, count, len(ties) == parity or len(ties) == 1 and ties[0].plain) for first, count, found, ties in tied
                  if first > last and found == rest]
         behind, alike = sum(count for _, count, _ in after), sum(count for _, count, same in after if same)
-        if min(before, behind) >= LEAST_RESHAPED and FEW_OTHER * others <= before and alike >= PART_PLAIN * behind:
+        if min(before, behind) >= MIN_RESHAPED and FEW_OTHER * others <= before and alike >= PART_PLAIN * behind:
             empty = all(image in rows.zero for rows in relations.tied_rows() if rows.first > last)
             return Reshape(until, min(first for first, _, _ in after), images, rest, empty)
     return None
@@ -431,7 +431,7 @@ def chunk_of(relations: Relations, images: Iterable[int]) -> tuple[int, int] | N
     in most rows there. None where ties change nowhere, as at level 5, or at too few places."""
     there = frozenset(images)
     found = list(borders(relations, there))
-    if len(found) < LEAST_BORDERS:
+    if len(found) < MIN_BORDERS:
         return None
     for chunk in CHUNKS:
         place, count = collections.Counter(it % chunk for it in found).most_common(1)[0]

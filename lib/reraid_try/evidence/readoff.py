@@ -19,15 +19,15 @@ from collections.abc import Collection, Iterator, Mapping, Sequence
 from . import assignment, numbering
 
 # So many votes of a group tell where the peak is; a group of votes has so many at least, and one in so many of the votes of its peak.
-MOST_SAMPLED, LEAST_GROUP, PART_OF_PEAK = 1500, 12, 20
+MAX_SAMPLED, MIN_GROUP, PART_OF_PEAK = 1500, 12, 20
 # Peaks with one in so many votes less than the highest are looked at too, at most so many of them.
-NEAR_PEAK, MOST_PEAKS = 10, 6
+NEAR_PEAK, MAX_PEAKS = 10, 6
 # A proposal explains one in so many of the votes of its first group of votes at least: noise in a window lies on wrong slots.
-LEAST_EXPLAINED = 2
+MIN_EXPLAINED = 2
 # Parity may stay for so many rows.
 DELAYS = (1, 16)
 # So many orders are worked out anew with the other groups of votes; so many proposals are told, and so many less than the best explains, of so many.
-MOST_WORKED, MOST_TOLD, NEAR_BEST = 12, 4, 32
+MAX_WORKED, MAX_TOLD, NEAR_BEST = 12, 4, 32
 
 
 @dataclasses.dataclass(frozen=True)
@@ -122,7 +122,7 @@ Turned = Mapping[tuple[int, int, int], int]
 
 def sampled(votes: Sequence[Vote]) -> Sequence[Vote]:
     """Some of the votes, spread evenly."""
-    step = max(1, len(votes) // MOST_SAMPLED)
+    step = max(1, len(votes) // MAX_SAMPLED)
     return votes[::step]
 
 
@@ -131,7 +131,7 @@ def phases(votes: Sequence[Vote], chunk: int) -> dict[tuple[int, int], list[Vote
     found = collections.defaultdict[tuple[int, int], list[Vote]](list)
     for vote in votes:
         found[vote.group, (vote.place - vote.sector) % chunk].append(vote)
-    least = max(LEAST_GROUP // 2, len(votes) // PART_OF_PEAK)
+    least = max(MIN_GROUP // 2, len(votes) // PART_OF_PEAK)
     return {key: those for key, those in found.items() if len(those) >= least}
 
 
@@ -160,8 +160,8 @@ def peaks(votes: Sequence[Vote], sought: Sought) -> list[Peak]:
             for data, count in windows_of(there, chunk, border, {form.data for form in sought.forms}):
                 found.append(Peak(chunk, border, data, count))
                 top = max(top, count)
-    near = [it for it in found if it.votes * NEAR_PEAK >= top * (NEAR_PEAK - 1) and it.votes >= LEAST_GROUP // 2]
-    return sorted(near, key=lambda it: (-it.votes, -it.chunk, it.border))[:MOST_PEAKS]
+    near = [it for it in found if it.votes * NEAR_PEAK >= top * (NEAR_PEAK - 1) and it.votes >= MIN_GROUP // 2]
+    return sorted(near, key=lambda it: (-it.votes, -it.chunk, it.border))[:MAX_PEAKS]
 
 
 def windows_of(there: Mapping[tuple[int, int], Sequence[Vote]], chunk: int, border: int, widths: Collection[int]) -> Iterator[tuple[int, int]]:
@@ -196,7 +196,7 @@ def vote_groups(cells: Mapping[Cell, int], peak: Peak) -> list[VoteGroup]:
     numbers = collections.defaultdict[tuple[int, int], collections.Counter[int]](collections.Counter)
     for (group, left, _, _, number), count in cells.items():
         numbers[group, left][number] += count
-    found, least = list[VoteGroup](), max(LEAST_GROUP, peak.votes // PART_OF_PEAK)
+    found, least = list[VoteGroup](), max(MIN_GROUP, peak.votes // PART_OF_PEAK)
     for (group, left), there in numbers.items():
         rest = dict(there)
         while rest:
@@ -312,10 +312,10 @@ class Reader:
         vote_group = self.vote_groups[0]
         for turn, offset in self.turns():
             for count, shift in self.shifts(vote_group, turn):
-                if count * NEAR_BEST < top * (NEAR_BEST - 1) or count < LEAST_GROUP:
+                if count * NEAR_BEST < top * (NEAR_BEST - 1) or count < MIN_GROUP:
                     break
                 total, columns = assignment.best(self.weights(vote_group, turn, shift))
-                if total >= LEAST_GROUP:
+                if total >= MIN_GROUP:
                     known = self.origin(vote_group, turn, shift) in self.sought.origins
                     found.append(Order(turn, offset, self.slots_of(columns, turn.form), ((vote_group, shift, total),), known))
                     top = max(top, total)
@@ -337,7 +337,7 @@ class Reader:
         for vote_group in self.vote_groups[1:]:
             best = max(((self.fits(self.weights(vote_group, order.turn, shift), columns), shift) for _, shift in self.shifts(vote_group, order.turn)),
                        default=(0, 0))
-            if best[0] * LEAST_EXPLAINED >= vote_group.votes:
+            if best[0] * MIN_EXPLAINED >= vote_group.votes:
                 chosen.append((vote_group, best[1]))
                 more = self.weights(vote_group, order.turn, best[1])
                 total = [[one + other for one, other in zip(row, added)] for row, added in zip(total, more)]
@@ -354,9 +354,9 @@ class Reader:
         """What is proposed by this peak: `totals` has how many votes each group has."""
         if not self.vote_groups:
             return []
-        orders = [self.with_others(it) for it in self.orders()[:MOST_WORKED]]
+        orders = [self.with_others(it) for it in self.orders()[:MAX_WORKED]]
         orders.sort(key=lambda it: (-it.explained, not it.known, it.turn.delay, it.turn.form.level, it.offset))
-        kept = [it for it in orders if it.shifts[0][2] * LEAST_EXPLAINED >= self.vote_groups[0].votes]
+        kept = [it for it in orders if it.shifts[0][2] * MIN_EXPLAINED >= self.vote_groups[0].votes]
         following = max((it.shifts[0][2] for it in orders if kept and it.shifts[0][2] < kept[0].shifts[0][2]), default=0)
         return [self.proposal(it, totals, following) for it in kept]
 

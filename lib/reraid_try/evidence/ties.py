@@ -16,8 +16,8 @@ from .relations import Relations
 
 # So many rows are looked at, spread over the images; and as many close to each other where chunks are told, each so many sectors behind the one
 # before.
-MOST_ROWS, FINE_STEP = 4096, 8
-LEAST_IMAGES, MOST_IMAGES = 2, 64
+MAX_ROWS, FINE_STEP = 4096, 8
+MIN_IMAGES, MAX_IMAGES = 2, 64
 # What a RAID 0 over arrays of a level is called.
 NESTED = {LEVEL_5: "RAID 50", LEVEL_6: "RAID 60"}
 # The status of words that are none of the program's.
@@ -45,7 +45,7 @@ class Told:
 
 def step_of(first: int, end: int) -> int:
     """Return how many sectors apart the rows lie that are looked at from a first to before a last one."""
-    return max(1, -(-(end - first) // MOST_ROWS))
+    return max(1, -(-(end - first) // MAX_ROWS))
 
 
 class Ties:
@@ -86,7 +86,7 @@ class Ties:
             return self.relations(numbers, first, end, max(1, -(-(end - first) // most)), offsets)
         key = tuple(numbers), first, end, most, tuple(offsets)
         if key not in self.spreads:
-            self.spreads[key] = self.sampled(numbers, first, end, most, offsets, most == MOST_ROWS)
+            self.spreads[key] = self.sampled(numbers, first, end, most, offsets, most == MAX_ROWS)
         return self.spreads[key]
 
     def sampled(self, numbers: Sequence[int], first: int, end: int, most: int, offsets: Sequence[int], telling: bool) -> Relations | None:
@@ -113,7 +113,7 @@ class Ties:
 
     def tell(self, numbers: Sequence[int], first: int, end: int, offsets: Sequence[int]) -> Told:
         """What the rows of some images tell, which are read for it."""
-        found = self.spread(numbers, first, end, MOST_ROWS, offsets) if LEAST_IMAGES <= len(numbers) <= MOST_IMAGES and first < end else None
+        found = self.spread(numbers, first, end, MAX_ROWS, offsets) if MIN_IMAGES <= len(numbers) <= MAX_IMAGES and first < end else None
         if found is None:
             return Told()
         found = self.without_patterns(found, numbers, offsets)
@@ -133,23 +133,23 @@ class Ties:
         """What rows that lie closer to each other tell of a group of some rows: where it begins, and how long its chunks are."""
         images = group.current
         before, offsets = max(first, found.before(group.first)), [moved[image] for image in images] if moved else []
-        near = self.relations(images, before, min(end, group.first + 1), max(1, (group.first - before) // MOST_ROWS), offsets)
+        near = self.relations(images, before, min(end, group.first + 1), max(1, (group.first - before) // MAX_ROWS), offsets)
         begin = next((rows.first for rows in near.tied_rows()), None) if near else None
         if reshape := group.reshape:
             behind = min(end, reshape.sector + 1)
-            near = self.relations(images, reshape.last, behind, max(1, (behind - reshape.last) // MOST_ROWS), offsets)
+            near = self.relations(images, reshape.last, behind, max(1, (behind - reshape.last) // MAX_ROWS), offsets)
             group = dataclasses.replace(group, reshape=reshape.closer(near) if near else reshape)
         group = dataclasses.replace(group, old=tuple(self.since(it, group, max(first, found.before(it.first)), moved) for it in group.old))
         if group.level != LEVEL_6 or not group.parity:
             return Known(group, None, begin)
-        fine = self.relations(images, group.first // FINE_STEP * FINE_STEP, min(end, group.first + MOST_ROWS * FINE_STEP), FINE_STEP, offsets)
+        fine = self.relations(images, group.first // FINE_STEP * FINE_STEP, min(end, group.first + MAX_ROWS * FINE_STEP), FINE_STEP, offsets)
         chunk = image_groups.chunk_of(fine, images) if fine else None
         return Known(group, chunk[0] if chunk else None, begin)
 
     def since(self, old: Old, group: ImageGroup, before: int, moved: Mapping[int, int]) -> Old:
         """From which row on an image of a group is old, by the rows from another one on, which lie closer to each other."""
         offsets = [moved[image] for image in group.images] if moved else []
-        near = self.relations(group.images, before, old.first + 1, max(1, (old.first - before) // MOST_ROWS), offsets)
+        near = self.relations(group.images, before, old.first + 1, max(1, (old.first - before) // MAX_ROWS), offsets)
         return old.closer(near, frozenset(group.images)) if near else old
 
 
@@ -184,7 +184,7 @@ def lines(told: Told, twins: Mapping[int, int] | None = None) -> list[str]:
         if group.level == COPIES:
             said += [f"images {one} and {other} hold the same data" for one, other in group.copies]
             if not group.copies:
-                two = named(group.images) if len(group.images) == LEAST_IMAGES else f"two of {named(group.images)}"
+                two = named(group.images) if len(group.images) == MIN_IMAGES else f"two of {named(group.images)}"
                 said.append(f"{two} hold the same data in {counted(group.rows, 'row')} of those sampled")
             continue
         if group.may_be_copies:

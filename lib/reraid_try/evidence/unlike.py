@@ -16,10 +16,10 @@ from .image_groups import LEVEL_5, LEVEL_6, connected
 from .images import Image
 from .relations import Relations
 from .shifts import ALIGNED, Distances
-from .ties import MOST_ROWS, Known, Ties
+from .ties import MAX_ROWS, Known, Ties
 
 # So many ways to choose the offsets are tried, for each part of the images so many places behind the first one, and so many beginnings.
-MOST_WAYS, MOST_PLACES, MOST_BEGINNINGS = 32, 8, 3
+MAX_WAYS, MAX_PLACES, MAX_BEGINNINGS = 32, 8, 3
 # The ways are asked about for this part of the time of a step at most. Rows are looked at so many times, each time closer to each other.
 PART, PASSES = 6, 3
 # Where partitions and the data of md begin, and the first extents of LVM2: multiples of so many sectors, from a first one on.
@@ -74,9 +74,9 @@ def further(part: Mapping[int, int], main: Mapping[int, int], images: Mapping[in
     by_text = [one - part[image] - (other - main[base]) for image, base in itertools.product(part, main)
                for one, other in itertools.product(named.get(image, ()), named.get(base, ()))]
     if not found.told:
-        return list(dict.fromkeys([*by_text, *by_held]))[:MOST_PLACES]
+        return list(dict.fromkeys([*by_text, *by_held]))[:MAX_PLACES]
     alike = [there - here for there in main.values() for here in part.values()]
-    return list(dict.fromkeys([*weaker[:MOST_PLACES // 2], *by_held[:1], *by_text, *by_held, *alike]))[:MOST_PLACES]
+    return list(dict.fromkeys([*weaker[:MAX_PLACES // 2], *by_held[:1], *by_text, *by_held, *alike]))[:MAX_PLACES]
 
 
 def chosen(choices: Sequence[Sequence[int]], behind: int) -> Iterator[tuple[int, ...]]:
@@ -96,7 +96,7 @@ def ways(images: Sequence[Image], found: Distances, named: Starts) -> list[tuple
     choices = [further(part, main, by_number, found, named) for part in others]
     most = sum(len(it) - 1 for it in choices)
     made: dict[tuple[int, ...], None] = {}
-    for places in itertools.islice((it for behind in range(most + 1) for it in chosen(choices, behind)), MOST_WAYS):
+    for places in itertools.islice((it for behind in range(most + 1) for it in chosen(choices, behind)), MAX_WAYS):
         begins = main | {image: place + distance for part, place in zip(others, places) for image, distance in part.items()}
         least = min(begins.values())
         made[tuple(begins[image.number] - least for image in images)] = None
@@ -111,7 +111,7 @@ def beginnings(images: Sequence[Image], way: Sequence[int], begin: int, named: S
     here = {image.number: further for image, further in zip(images, way)}
     usual = [first + (begin - first) // step * step for first, step in GRIDS]
     found = [*by_text[:1], *[begin // ALIGNED * ALIGNED] * (not few), *held(here, {image.number: image for image in images}), *usual]
-    return [it for it in dict.fromkeys(found) if 0 <= it <= begin][:MOST_BEGINNINGS]
+    return [it for it in dict.fromkeys(found) if 0 <= it <= begin][:MAX_BEGINNINGS]
 
 
 def tied(ties: Ties, images: Sequence[Image], way: Sequence[int], end: int) -> list[Known]:
@@ -127,7 +127,7 @@ def begin_of(ties: Ties, numbers: Sequence[int], way: Sequence[int], known: Know
     begin = known.group.first if known.begin is None else known.begin
     first, last = begin, known.group.last
     for near in range(PASSES if known.group.parity else 0):
-        found = ties.relations(numbers, first, last + 1, max(1, (last - first) // MOST_ROWS), way)
+        found = ties.relations(numbers, first, last + 1, max(1, (last - first) // MAX_ROWS), way)
         told = behind_loose(found, frozenset(numbers), near > 0) if found else None
         if told is None:
             break

@@ -38,7 +38,7 @@ if TYPE_CHECKING:
     from .search import Search
 
 # So many things are relaxed at most, one after the other, where evidence says which array is searched.
-MOST_RELAXED = 2
+MAX_RELAXED = 2
 
 
 @dataclasses.dataclass(frozen=True)
@@ -291,7 +291,7 @@ class Evident:
             scope = Scope(self.options, search.commands, self.within(unsound.images, target.span), search.say_late, start=target.span.first,
                           asked=dict(target.asked), tied=True, shared=search.surveys)
         scope.program.seconds = search.options.seconds
-        stages = (with_bad_rows(count, unsound.shape) for count in range(1, MOST_RELAXED + 1))
+        stages = (with_bad_rows(count, unsound.shape) for count in range(1, MAX_RELAXED + 1))
         found = any(search.take_stage(stage, scope) or self.has_all(unsound, before) for stage in stages)
         search.why = why
         return found
@@ -351,8 +351,8 @@ class Evident:
     def zeros(self, target: Target, end: int) -> Relations | None:
         """The relations of many rows of the images of a target up to an end."""
         if sampling.is_large(target.span.first, end):
-            return self.asked().spread(target.images, target.span.first, end, places.MOST_ROWS, target.moved)
-        step = max(1, (end - target.span.first) // places.MOST_ROWS)
+            return self.asked().spread(target.images, target.span.first, end, places.MAX_ROWS, target.moved)
+        step = max(1, (end - target.span.first) // places.MAX_ROWS)
         return self.asked().relations(target.images, target.span.first, end, step, target.moved)
 
     def unread(self, target: Target) -> Iterator[range]:
@@ -422,7 +422,7 @@ class Evident:
         scope.program.seconds = self.options.seconds
         content = tuple(shape for shape in target.shapes if self.is_content(before, shape))
         target = dataclasses.replace(target, shapes=content or target.shapes)
-        for count in range(1, MOST_RELAXED + 1):
+        for count in range(1, MAX_RELAXED + 1):
             if self.take_stage(target, count, scope, before) or self.is_content(before):
                 return
 

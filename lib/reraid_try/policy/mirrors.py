@@ -6,8 +6,8 @@ from collections.abc import Iterable, Iterator, Sequence
 
 from ..calls.commands import Runner, quoted
 from ..calls.formats import Page, Ranked
-from ..calls.program import MOST_LINES, Copied, Listing
-from ..calls.sets import FAR, MOST_COPIES, NEAR, NEAR_2, OFFSET, Copying, read_word
+from ..calls.program import MAX_LINES, Copied, Listing
+from ..calls.sets import FAR, MAX_COPIES, NEAR, NEAR_2, OFFSET, Copying, read_word
 from ..evidence import shifts
 from ..evidence.image_groups import CHUNKS, connected
 from ..evidence.gathered import Evidence, Pairs
@@ -17,10 +17,10 @@ from .scope import Scope
 # What fails in a window of so many sectors fails in a large one; with rows that maps call unread it is so many times as many.
 SMALL_WINDOW, SMALL_TIMES = 8192, 4
 # So many ways to group the images are looked at.
-MOST_GROUPINGS = 8
+MAX_GROUPINGS = 8
 # So many members may be missing at most, and chunks are so long at most where copies do not tell them.
-MOST_MISSING, MOST_CHUNK = 3, 2048
-COPIES = range(2, MOST_COPIES + 1)
+MAX_MISSING, MAX_CHUNK = 3, 2048
+COPIES = range(2, MAX_COPIES + 1)
 # Of several ways to leave images out all are tried with nothing relaxed before one is with something.
 PLAIN_FIRST = (range(1), range(1, 3))
 Group = tuple[int, ...]
@@ -36,7 +36,7 @@ def near(count: int, alike: int = 1) -> list[Copied]:
     """What is asked where some of so many images hold the same in the same rows, the fewest missing first; `alike` is of how many of those that hold
     the same wholly most do, 1 where none does. Where that many cannot do so, as in pairs of an odd number with none missing, it comes last."""
     order = sorted(COPIES, key=lambda copies: copies != max(alike, NEAR_2.copies))
-    found = [Copied((layout,), count + missing, missing) for missing in range(MOST_MISSING + 1)
+    found = [Copied((layout,), count + missing, missing) for missing in range(MAX_MISSING + 1)
              for layout in bearing((Copying(NEAR, copies) for copies in order), count + missing, missing)]
 
     def is_odd(it: Copied) -> bool:
@@ -50,8 +50,8 @@ def moved(count: int, distance: int, evidence: Evidence) -> Iterator[Copied]:
     """What is asked where images hold the same so many sectors apart, the fewest missing first: copies of layout offset, where that is a chunk, and
     far ones, first by where the images end, and then with an end that puts them so far apart."""
     chunk, layouts = shifts.layout(distance) == OFFSET, {kind: [Copying(kind, copies) for copies in COPIES] for kind in (OFFSET, FAR)}
-    chunks = tuple(it for it in CHUNKS if it <= MOST_CHUNK and distance % it == 0)
-    for missing in range(MOST_MISSING + 1):
+    chunks = tuple(it for it in CHUNKS if it <= MAX_CHUNK and distance % it == 0)
+    for missing in range(MAX_MISSING + 1):
         members = count + missing
         if chunk and (found := bearing(layouts[OFFSET], members, missing)):
             yield Copied(found, members, missing, (distance,))
@@ -96,7 +96,7 @@ def groupings(sets: Iterable[Ranked]) -> list[Grouped]:
         word = read_word(it.text)
         groups = (there(word.slots[first:first + word.together]) for first in range(0, len(word.slots), word.together))
         found.setdefault((frozenset(filter(None, groups)), word.together), set()).add(word.offset)
-    return [Grouped(tuple(sorted(groups)), copies, tuple(sorted(offsets))) for (groups, copies), offsets in found.items()][:MOST_GROUPINGS]
+    return [Grouped(tuple(sorted(groups)), copies, tuple(sorted(offsets))) for (groups, copies), offsets in found.items()][:MAX_GROUPINGS]
 
 
 def told(pairs: Iterable[tuple[int, int]], images: Sequence[int]) -> Grouped | None:
@@ -107,7 +107,7 @@ def told(pairs: Iterable[tuple[int, int]], images: Sequence[int]) -> Grouped | N
     copies = max(map(len, found), default=0)
     found += [(place,) for place in sorted(places.values()) if not any(place in group for group in found)]
     missing = sum(copies - len(group) for group in found)
-    return Grouped(tuple(sorted(found)), copies, ()) if copies in COPIES and len(found) > 1 and missing <= MOST_MISSING else None
+    return Grouped(tuple(sorted(found)), copies, ()) if copies in COPIES and len(found) > 1 and missing <= MAX_MISSING else None
 
 
 def without_one(pairs: Iterable[tuple[int, int]], halves: Sequence[tuple[int, int]], images: Sequence[int]) -> Iterator[Grouped]:
@@ -151,7 +151,7 @@ class Mirrors:
         page = program.mirrors(self.words(asked, tried, small))
         if page.late:
             return self.late(page)
-        told = len(page.sets) < MOST_LINES
+        told = len(page.sets) < MAX_LINES
         offsets = sorted({read_word(it.text).offset for it in page.sets}) if told else []
         large = self.words(asked, offsets or tried, evidence.window)
         self.commands.tell(quoted(large))

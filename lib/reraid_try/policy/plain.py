@@ -6,7 +6,7 @@ from collections.abc import Iterable, Iterator, Sequence
 from ..calls.sets import LEVELS, read_word
 from ..evidence import metadata, shifts, ties
 from ..evidence.image_groups import COPIES, LEVEL_5, ImageGroup
-from ..evidence.gathered import MOST_WINDOW
+from ..evidence.gathered import MAX_WINDOW
 from ..evidence.images import Image
 from ..evidence.metadata import Member
 from ..evidence.ties import Known, Told
@@ -14,14 +14,14 @@ from ..evidence.unlike import Unlike
 from ..options import Options
 from ..units import SECTOR, listed
 from .relaxations import EACH_WINDOW
-from .mirrors import MOST_MISSING
+from .mirrors import MAX_MISSING
 from .shapes import Shape
 
 
 # So many members are missing in what may be RAID 10 before what parity ties is tried, and so many in what may be one after it.
-FEW_MISSING, MORE_MISSING = (0, 1), tuple(range(2, MOST_MISSING + 1))
+FEW_MISSING, MORE_MISSING = (0, 1), tuple(range(2, MAX_MISSING + 1))
 # So few images are left of a RAID 10 that is more than copies.
-LEAST_STRIPED = 3
+MIN_STRIPED = 3
 # Where ties leave an image out in no more than one of so many tied rows, that may be bad areas in place of an old disk.
 FEW_LEFT_OUT = 4
 
@@ -68,7 +68,7 @@ class Target:
     begin: int | None = None
     moved: tuple[int, ...] = ()
     apart: int | None = None
-    missing: tuple[int, ...] = tuple(range(MOST_MISSING + 1))
+    missing: tuple[int, ...] = tuple(range(MAX_MISSING + 1))
     by_thousands: tuple[Shape, ...] = ()
     unsound: Unsound | None = None
     first: int | None = None
@@ -169,7 +169,7 @@ def named_target(members: Sequence[Member], span: Span, options: Options, images
         return None
     shape = Shape(COPIES if word.is_mirrored else word.level, len(word.slots), word.lost)
     is_asked = options.wants(shape.levels) and (options.members is None or shape.members in options.members)
-    there, first = tuple(sorted(word.images)), (word.offset + MOST_WINDOW) * SECTOR
+    there, first = tuple(sorted(word.images)), (word.offset + MAX_WINDOW) * SECTOR
     why = f"metadata on {ties.named(there)} ({members[0].source}) give a layout, which may be wrong; little is read to test it"
     asked = (("offsets", str(word.offset)), ("chunks", str(word.chunk)))
     return Target(there, span, why, (shape,), asked, first=first, word=word.text) if is_asked else None
@@ -213,7 +213,7 @@ def without_each(targets: Iterable[Target], images: Sequence[int]) -> list[Targe
     for target in targets:
         without = [dataclasses.replace(target, images=tuple(it for it in target.images if it != image), missing=FEW_MISSING,
                                        why=f"{target.why}; image {image} may be no member or a bad copy, so it is left out")
-                   for image in images if len(target.images) > LEAST_STRIPED]
+                   for image in images if len(target.images) > MIN_STRIPED]
         few, more = (dataclasses.replace(target, missing=missing) for missing in (FEW_MISSING, MORE_MISSING))
         found += [few, *without, more] if without else [target]
     return found
@@ -225,7 +225,7 @@ def halves_targets(told: Told, images: Sequence[Image], span: Span, options: Opt
     same = {frozenset((image.number, image.like)) for image in images if image.like is not None}
     known = [it.group for it in told.known if it.group.level == COPIES and len(it.group.images) == 2]
     halves = tuple((one, other) for one, other in (it.images for it in known) if frozenset((one, other)) not in same)
-    if not halves or len(images) <= LEAST_STRIPED or span.partition or not options.wants(COPIES):
+    if not halves or len(images) <= MIN_STRIPED or span.partition or not options.wants(COPIES):
         return []
     said = "; ".join(f"images {one} and {other} hold the same in most rows: one may be an older state of the other" for one, other in halves)
     return [Target(tuple(image.number for image in images), span, f"{said}, so each is left out in turn", copied=True, halves=halves)]

@@ -14,15 +14,15 @@ from .shapes import Shape, Shapes
 # An offset with less than this part of the filled sectors behind it is tried last.
 FEW_FILLED = 16
 # How many rows may be bad at least, where that is relaxed, and of so many of the filled rows one at most.
-LEAST_BAD, MOST_BAD = 128, 4
+MIN_BAD, MAX_BAD = 128, 4
 # Of so many rows of the window one may be bad at most, where no hint speaks for a shape.
 FEW_BAD = 64
 # So many rows are tested alone, none of them bad, where maps tell of bad ones.
 FIRST_ROWS = 65536
 # So many offsets of the hints are tried with more offsets.
-MOST_OFFSETS = 24
+MAX_OFFSETS = 24
 # How far apart the offsets of images are that differ, in sectors, and out of how many offsets of the hints.
-APART, MOST_UNLIKE = 2048, 2
+APART, MAX_UNLIKE = 2048, 2
 
 
 class Asking:
@@ -65,7 +65,7 @@ class Asking:
         leave few sets then to be asked for so many rows, and else fewer."""
         filled = self.evidence.filled
         few = min(self.evidence.window // FEW_BAD, filled // FEW_FILLED)
-        return self.evidence.bad + max(LEAST_BAD, filled // MOST_BAD if self.shapes.speak_for(shape) else few)
+        return self.evidence.bad + max(MIN_BAD, filled // MAX_BAD if self.shapes.speak_for(shape) else few)
 
     def unread_relaxation(self, shape: Shape, request: Request | None) -> tuple[Relaxation, ...]:
         """What is relaxed by the rows that maps call unread; nothing where the request has none of them, or more."""
@@ -80,7 +80,7 @@ class Asking:
         of which parity tells late."""
         evidence, rows = self.evidence, self.most_bad(shape)
         late = bool(shape.missing or shape.foreign) and not self.shapes.speak_for(shape)
-        more = [*evidence.offset_values[:MOST_OFFSETS], *(evidence.start + it for it in hints.MORE_OFFSETS)]
+        more = [*evidence.offset_values[:MAX_OFFSETS], *(evidence.start + it for it in hints.MORE_OFFSETS)]
         offsets = [it for it in more if it < evidence.end and (every or self.has_weight(it))]
         unlike = [it for it in self.unlike_offsets() if every or all(map(self.has_weight, it))]
         telling = [it for it in evidence.tried if evidence.filling.behind(it) >= 2 * rows]
@@ -101,8 +101,8 @@ class Asking:
         of the images, since a set with an offset for each has to name all."""
         if any(image.number != place for place, image in enumerate(self.evidence.images)):
             return []
-        values = self.evidence.offset_values[:MOST_UNLIKE]
-        found = [sorted(values)] if len(values) == MOST_UNLIKE else []
+        values = self.evidence.offset_values[:MAX_UNLIKE]
+        found = [sorted(values)] if len(values) == MAX_UNLIKE else []
         for first in values[:1]:
             found += [[first, first + APART]] + ([[first - APART, first]] if first >= APART + self.evidence.start else [])
         return [it for k, it in enumerate(found) if it not in found[:k] and max(it) < self.evidence.end]

@@ -21,7 +21,7 @@ if TYPE_CHECKING:
     from .search import Search
 
 # So many queries are made at most.
-MOST_QUERIES = 4
+MAX_QUERIES = 4
 # An order of Q for a set that has none in landmarks.
 ANY_ORDER = {"0": "none", "5": "none", "6": "after-q"}
 
@@ -58,7 +58,7 @@ def least(fit: Fit) -> int:
 
 def votes_of(plan: Plan, kinds: Sequence[str]) -> list[Vote]:
     """The votes of the landmarks of these kinds, of groups with enough of them: one for each place at which a landmark may lie."""
-    groups = [group for group in plan.groups if group.kind in kinds and len(group.marks) >= thousands.LEAST_MARKS]
+    groups = [group for group in plan.groups if group.kind in kinds and len(group.marks) >= thousands.MIN_MARKS]
     return [Vote(group.place, mark.image, mark.sector, place) for group in groups for mark in group.marks for place in dict.fromkeys(mark.numbers)]
 
 
@@ -77,7 +77,7 @@ def queries(found: Sequence[Proposal], shapes: Sequence[Shape], origins: frozens
     groups = dict[tuple[Form, int, int], list[Proposal]]()
     for it in known or likely:
         groups.setdefault((it.form, it.chunk, it.delay), []).append(it)
-    for (form, _, _), those in list(groups.items())[:MOST_QUERIES]:
+    for (form, _, _), those in list(groups.items())[:MAX_QUERIES]:
         shape = next(it for it in shapes if form.level in it.levels.split(",") and (it.members, it.foreign) == (form.members, form.foreign))
         yield Query(dataclasses.replace(shape, levels=form.level), tuple(those))
 
@@ -112,7 +112,7 @@ def asked(search: "Search", scope: Scope, query: Query, kinds: Sequence[str]) ->
     fit = query.first.fits[0]
     search.report.say("reason", f"  {search.why}", fits=fit.fits, marks=fit.votes, following=query.first.following, why=search.why)
     try:
-        if not listing.whole or len(listing.sets) > thousands.MOST_SETS:
+        if not listing.whole or len(listing.sets) > thousands.MAX_SETS:
             return False
         others = [group.place for group in scope.plan.groups]
         alone = relaxations.told("only the landmarks that it is read off", RelaxationKind.ALONE, others)

@@ -15,11 +15,11 @@ from ..errors import Refused
 from ..halving import halved
 from ..units import listed
 from .relaxations import Relaxation, RelaxationKind, relaxed
-from .plans import LEAST_BAD, Asking
+from .plans import MIN_BAD, Asking
 from .shapes import Shape
 
 # Of so many rows, of all sets together, it is asked whether they are bad, where many may be, and so many times as many as before each time.
-MOST_ASKED, STEPS = 300_000_000, 4
+MAX_ASKED, STEPS = 300_000_000, 4
 
 
 # Who is told what ran out of its time, and of how many seconds.
@@ -92,8 +92,8 @@ class Questions:
         """The sets of a plan that pass with some bad rows: few of these at first, and then four times as many, up to the plan's, until some set
         passes. The more sets landmarks allow, the fewer rows are asked for, so that no listing is long."""
         unread = self.asking.evidence.unread
-        most = min(int(plan.values["badrows"]), max(LEAST_BAD, MOST_ASKED // self.allowed_by_landmarks(plan)) + unread)
-        step = LEAST_BAD
+        most = min(int(plan.values["badrows"]), max(MIN_BAD, MAX_ASKED // self.allowed_by_landmarks(plan)) + unread)
+        step = MIN_BAD
         while True:
             rows = min(most, unread + step)
             listing = self.program.listing(plan.having(badrows=rows))

@@ -6,7 +6,7 @@ import itertools
 from collections.abc import Callable, Collection, Iterator, Sequence
 
 from ..calls.plans import Group, Plan
-from ..calls.surveys import MOST_VALUES, Request
+from ..calls.surveys import MAX_VALUES, Request
 from ..units import KIB, SECTOR, listed
 
 # Each list of offsets is read for itself, so little of the members is tested, in sectors.
@@ -161,7 +161,7 @@ def more_offsets(offsets: Collection[int]) -> Relaxation:
     """These offsets besides."""
     def change(request: Request) -> Request:
         asked = set(request.numbers("offsets")) | set(offsets)
-        return request.having(offsets=listed(sorted(it for it in asked if it < request.number("end"))[:MOST_VALUES]))
+        return request.having(offsets=listed(sorted(it for it in asked if it < request.number("end"))[:MAX_VALUES]))
     return Relaxation("more offsets", RelaxationKind.OFFSETS, change)
 
 
@@ -169,7 +169,7 @@ def more_origins() -> Relaxation:
     """Where partitions of old tools begin, and the first extents of LVM2."""
     def change(request: Request) -> Request:
         asked = {*request.numbers("origins"), *OLD_ORIGINS, *LVM_ORIGINS}
-        return request.having(origins=listed(sorted(asked)[:MOST_VALUES]))
+        return request.having(origins=listed(sorted(asked)[:MAX_VALUES]))
     return Relaxation("more origins", RelaxationKind.ORIGINS, change)
 
 

@@ -6,7 +6,7 @@ from collections.abc import Callable, Iterator, Mapping, Sequence
 
 from ..calls.commands import Runner, quoted
 from ..calls.plans import Plan
-from ..calls.program import MOST_LINES, Listing, Program
+from ..calls.program import MAX_LINES, Listing, Program
 from ..calls.sets import NEAR, Copying, Word, mirrored, read_word
 from ..calls.surveys import Request
 from ..evidence import gathered
@@ -101,7 +101,7 @@ class Scope:
         """What a step lists, without the sets that rows speak against whose zeros tell where parity lies. Zeros are asked where it lists many."""
         self.tell(request)
         found = self.questions.climb(plan) if self.questions.has_bad_rows(plan, shape) else self.program.listing(plan)
-        if not found.whole and len(found.sets) < MOST_LINES:
+        if not found.whole and len(found.sets) < MAX_LINES:
             self.cut_short.add(plan.text())
         places = self.places_at(shape, few=len(found.sets) <= FEW_SETS)
         if places is None or not found.sets:
@@ -124,7 +124,7 @@ class Scope:
     def tell(self, request: Request) -> None:
         """Shows the commands of a step."""
         names = self.evidence.names
-        words = [request.words(names), *request.filters(self.surveys.seen(request)), ["reraid", "list", f"size={MOST_LINES}", "--", *names]]
+        words = [request.words(names), *request.filters(self.surveys.seen(request)), ["reraid", "list", f"size={MAX_LINES}", "--", *names]]
         self.commands.tell(" | ".join(quoted(it) for it in words))
 
     def word(self, text: str) -> Word:

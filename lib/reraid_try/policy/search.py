@@ -29,7 +29,7 @@ from ..options import LEVELS, Options
 from ..report import words
 from ..report.diagnosis import Diagnosis
 from ..report.report import Report
-from ..units import ALL, KIB, MIB, MOST_IMAGES, SECTOR, counted, size_said
+from ..units import ALL, KIB, MIB, MAX_IMAGES, SECTOR, counted, size_said
 from . import relaxations
 from .answers import Answer, Answers, Kind
 from .relaxations import Relaxation, RelaxationKind
@@ -44,9 +44,9 @@ from .steps import Step
 # Images of at most so many times what is read first are read wholly where nothing was found.
 SMALL_TIMES = 4
 # Pairs of mirrors are searched with up to so many things relaxed.
-MOST_PAIRED = 2
+MAX_PAIRED = 2
 # In so many shapes three things are relaxed, whatever they are.
-MOST_THRICE = 2
+MAX_THRICE = 2
 
 
 class Search:
@@ -119,8 +119,8 @@ class Search:
     def best_told(self) -> list[tuple[int, Candidate]]:
         """The candidates, with their numbers, of which more is told: the best, and those that are encrypted."""
         order = kin.in_order(self.tested, self.images)
-        best = words.best(order)[:words.MOST_TOLD]
-        return best + [pair for pair in words.encrypted(order) if pair not in best][:words.MOST_TOLD]
+        best = words.best(order)[:words.MAX_TOLD]
+        return best + [pair for pair in words.encrypted(order) if pair not in best][:words.MAX_TOLD]
 
     def diagnose(self, show: Callable[[Diagnosis], None]) -> None:
         """Prints of the nearest sets of the scope over all images, as far as nothing is refused."""
@@ -357,7 +357,7 @@ class Search:
         """With two and three things relaxed: what parity tells of first, and then all else with two."""
         tiers = self.scope.shapes.tiers()
         stages = [Stage(tiers.told, 2), Stage(tiers.told, 3), Stage(tiers.rest, 2), Stage(tiers.all, 2, every=True),
-                  Stage(tiers.all[:MOST_THRICE], 3, every=True)]
+                  Stage(tiers.all[:MAX_THRICE], 3, every=True)]
         return any(self.best() >= Score.KNOWN or self.take_stage(stage) for stage in stages)
 
     def without_landmarks(self) -> None:
@@ -484,7 +484,7 @@ class Search:
     def mirrors(self, scope: Scope, asked: Copied) -> bool:
         """RAID 10 by its copies: the sets, and where these group the images the RAID 0 of one of each group; it says whether the search is at its
         end."""
-        if asked.members > MOST_IMAGES or (self.options.members and asked.members not in self.options.members):
+        if asked.members > MAX_IMAGES or (self.options.members and asked.members not in self.options.members):
             return False
         try:
             listing = Mirrors(scope, self.commands).listing(asked)
@@ -496,7 +496,7 @@ class Search:
         whole = self.take(scope, step, others, lambda it: (None, scope.word(it.text)))
         return any([whole, *(self.grouped(scope, grouped) for grouped in groupings(striped))])
 
-    def grouped(self, over: Scope, grouped: Grouped, counts: Sequence[int] = range(MOST_PAIRED + 1)) -> bool:
+    def grouped(self, over: Scope, grouped: Grouped, counts: Sequence[int] = range(MAX_PAIRED + 1)) -> bool:
         """The RAID 0 of one image of each group of a scope, as a scope of its own, with so many things relaxed; it says whether the search is at its
         end."""
         seen_by, start = over.evidence.images, over.evidence.start
@@ -506,5 +506,5 @@ class Search:
         self.say_evidence(scope)
         shapes = scope.shapes.tiers().all
         stages = [Stage(shapes, count) for count in counts]
-        bare = bool(shapes) and MOST_PAIRED in counts
+        bare = bool(shapes) and MAX_PAIRED in counts
         return any(self.take_stage(stage, scope) for stage in stages) or bare and self.attempt_bare(scope, shapes[0])

@@ -6,7 +6,7 @@ from collections.abc import Sequence
 from ..calls.sets import LEVELS
 from ..evidence.gathered import Evidence
 from ..options import Options
-from ..units import MOST_IMAGES
+from ..units import MAX_IMAGES
 
 
 @dataclasses.dataclass(frozen=True)
@@ -112,6 +112,6 @@ class Shapes:
     def allowed(self, shape: Shape) -> Shape | None:
         """The shape with the levels alone that are asked for; None where it makes no sense."""
         levels = [level for level in filter(None, shape.levels.split(",")) if self.options.wants(level) and shape.members >= LEVELS[level].least]
-        if not levels or (self.options.members and shape.members not in self.options.members) or shape.members > MOST_IMAGES:
+        if not levels or (self.options.members and shape.members not in self.options.members) or shape.members > MAX_IMAGES:
             return None
         return dataclasses.replace(shape, levels=",".join(levels))

@@ -23,7 +23,7 @@ if TYPE_CHECKING:
 
 # So many of them tell something at least; so many groups are asked, those with the most; more sets with as many tell nothing, nor do those at which
 # less than one in so many of a group lie where they say, as by chance.
-LEAST_MARKS, MOST_GROUPS, MOST_SETS, FEW_FIT = 12, 2, 64, 10
+MIN_MARKS, MAX_GROUPS, MAX_SETS, FEW_FIT = 12, 2, 64, 10
 
 
 @dataclasses.dataclass(frozen=True)
@@ -78,8 +78,8 @@ def seen(scope: Scope) -> list[str]:
 
 def groups_of(scope: Scope, shape: Shape, kinds: Sequence[str], end: int | None = None) -> list[Group]:
     """The groups of these kinds with enough landmarks, those with the most first, up to an end of the images, if that is not the usual one."""
-    found = [group for group in asked_of(scope, shape, kinds, end).groups if group.kind in kinds and len(group.marks) >= LEAST_MARKS]
-    return sorted(found, key=lambda group: (-len(group.marks), group.place))[:MOST_GROUPS]
+    found = [group for group in asked_of(scope, shape, kinds, end).groups if group.kind in kinds and len(group.marks) >= MIN_MARKS]
+    return sorted(found, key=lambda group: (-len(group.marks), group.place))[:MAX_GROUPS]
 
 
 def asked_of(scope: Scope, shape: Shape, kinds: Sequence[str], end: int | None = None) -> Plan:
@@ -118,7 +118,7 @@ def attempt(search: "Search", scope: Scope, most: Most) -> bool:
     if FEW_FIT * most.fits < len(most.group.marks):
         return False
     listing = scope.program.listing(most.bounded)
-    if not listing.whole or len(listing.sets) > MOST_SETS:
+    if not listing.whole or len(listing.sets) > MAX_SETS:
         return False
     following = scope.questions.most_fits(most.plan, most.group.place, beyond=len(listing.sets))
     before, search.why = search.why, most.line(following)

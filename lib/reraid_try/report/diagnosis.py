@@ -17,7 +17,7 @@ from .report import Report
 # So many sets are asked of each plan, and shown at the end.
 FEW, SHOWN = 24, 3
 # So many shapes, and groups of each, are looked at, for so many times as long as a step.
-MOST_SHAPES, MOST_GROUPS, TIMES = 6, 8, 4
+MAX_SHAPES, MAX_GROUPS, TIMES = 6, 8, 4
 # The next set may have fewer unsound rows than the last one by this part.
 NEXT_FEWER = 64
 ON_THE_WAY = """  so far no layout is consistent. Of the layouts that landmarks allow, these have the fewest inconsistent rows. If images are \
@@ -69,7 +69,7 @@ class Diagnosis:
 
     def shapes(self) -> list[tuple[Shape, Request]]:
         """The shapes of which parity tells something, with what is asked for."""
-        return [(shape, self.scope.asking.request(shape)) for shape in self.scope.shapes.tiers().all if shape.parity][:MOST_SHAPES]
+        return [(shape, self.scope.asking.request(shape)) for shape in self.scope.shapes.tiers().all if shape.parity][:MAX_SHAPES]
 
     def by_rows(self, shapes: Sequence[tuple[Shape, Request]]) -> list[Near]:
         """Of the sets that landmarks allow, all or some of them, those with about the fewest unsound rows, none with more than twice as many as
@@ -95,7 +95,7 @@ class Diagnosis:
             whole = self.scope.surveys.plan(request).having(levels=shape.telling)
             if not self.sets(whole.bare(), 1):
                 continue
-            for group in sorted(whole.groups, key=lambda group: -len(group.marks))[:MOST_GROUPS]:
+            for group in sorted(whole.groups, key=lambda group: -len(group.marks))[:MAX_GROUPS]:
                 for near in self.of_group(whole, group):
                     found.setdefault(near.word, near)
         return sorted(self.asked(list(found.values())), key=lambda it: it.by_marks)

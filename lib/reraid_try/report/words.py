@@ -15,7 +15,7 @@ from ..units import sectors_said
 from .report import Report
 from .typed import Typed, commands, of_maps, typed_maps
 
-MOST_TOLD = 3
+MAX_TOLD = 3
 PATTERNS = {"la": "left-asymmetric", "ra": "right-asymmetric", "ls": "left-symmetric", "rs": "right-symmetric", "parity-first": "parity first",
             "parity-last": "parity last", "n-restart": "N restart", "n-continue": "N continue"}
 ORDERS = {"by-data": "Q coefficients by data number", "by-slot": "Q coefficients by slot"}
@@ -155,7 +155,7 @@ def show(report: Report, order: Sequence[Candidate], images: Sequence[Image]) ->
         numbers = ", ".join(str(number) for number, _ in closed)
         report.say("encrypted", f"encrypted ({kinds}): no checker tells {'this candidate' if len(closed) == 1 else 'these candidates'} from a wrong "
                    f"one. Try each with its key: candidate {numbers}", classes=[number for number, _ in closed], kinds=kinds)
-    for number, it in closed[:MOST_TOLD]:
+    for number, it in closed[:MAX_TOLD]:
         say_class(report, number, it, images, order)
-    if len(closed) > MOST_TOLD:
-        report.say("words", f"{len(closed) - MOST_TOLD} more of these are only in the list above", more=len(closed) - MOST_TOLD)
+    if len(closed) > MAX_TOLD:
+        report.say("words", f"{len(closed) - MAX_TOLD} more of these are only in the list above", more=len(closed) - MAX_TOLD)

@@ -29,7 +29,7 @@ class Listing:
     bad_rows: int | None = None
 
     def line(self) -> str:
-        """What is said of it."""
+        """Return it as one line of text."""
         count = counted(len(self.sets), "layout") if self.total is None else f"{len(self.sets)} of {counted(self.total, 'layout')}"
         return f"{count} {'passes' if len(self.sets) == 1 else 'pass'}" + (f" ({self.note})" if self.note else "")
 

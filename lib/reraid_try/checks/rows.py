@@ -68,7 +68,7 @@ class Near:
         return self.lacking, self.misfits, self.empty, -self.told.fits
 
     def line(self, bounds: "Bounds") -> str:
-        """What is said of it."""
+        """Return it as one line of text."""
         groups = ", ".join(group.text() for group in self.groups) or "no landmarks"
         return f"  {self.word}: {self.told.unsound} of {self.told.rows} rows inconsistent{bounds.text()}; {groups}"
 
@@ -109,7 +109,7 @@ class Old:
     blamed: bool = True
 
     def text(self, names: Sequence[str]) -> str:
-        """What is said of it."""
+        """Return it as one line of text."""
         since = f" from row {self.bounds.first} on" if self.bounds.first is not None else ""
         rebuilt = "; perhaps it was being rebuilt, up to there" if self.bounds.first and self.to_end else ""
         other = "" if self.blamed else ", or another image,"
@@ -127,7 +127,7 @@ class Turned:
     misfits: int
 
     def text(self) -> str:
-        """What is said of it."""
+        """Return it as one line of text."""
         return (f"{counted(self.fits, 'landmark')} {'matches' if self.fits == 1 else 'match'} before row {self.row}, and {self.misfits} from there "
                 "on do not. A reshape may have stopped there, or landmarks of an older array or file system follow")
 

@@ -83,7 +83,7 @@ class Finding:
         return f"{self.kind} states {counted(self.told // SECTOR, 'sector')}, but only {self.there // SECTOR} are there"
 
     def text(self) -> str:
-        """What is said of it."""
+        """Return it as one line of text."""
         where = f"{self.region} " if self.region else ""
         return f"{where}{self.kind}" + (f": {self.said}" if self.said else "")
 

@@ -37,7 +37,7 @@ class Encryption:
     data: int | None = None
 
     def line(self) -> str:
-        """What is said of it."""
+        """Return it as one line of text."""
         told = [part for part in (self.detail, f"identifier {self.identifier}" if self.identifier else "") if part]
         return f"encrypted: {self.kind}" + (f" ({', '.join(told)})" if told else "")
 

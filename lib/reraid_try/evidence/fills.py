@@ -108,7 +108,7 @@ class Fill:
         return self.why is Why.UNREAD and self.image.map is None
 
     def line(self) -> str:
-        """What is said of it."""
+        """Return it as one line of text."""
         it, (first, last) = self.held, (self.held.runs[0][0], self.held.runs[-1][1] - 1)
         places = f"from sector {first} to {last}" + (f", in {counted(len(it.runs), 'place')}" if len(it.runs) > 1 else "")
         numbers = ", with a running number," if it.varies else ""

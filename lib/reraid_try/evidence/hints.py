@@ -78,7 +78,7 @@ class Hint:
     spread: int = 1
 
     def line(self) -> str:
-        """What is said of it."""
+        """Return it as one line of text."""
         return f"hint: {PRINTED[self.what].format(self.value)}, from {self.why}"
 
 

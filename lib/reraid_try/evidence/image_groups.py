@@ -42,7 +42,7 @@ class Old:
     first: int
 
     def line(self, name: str) -> str:
-        """What is said of it."""
+        """Return it as one line of text."""
         return (f"{name} is old or damaged from sector {self.first} on, or from another array. In {self.rows} of the sampled rows, parity matches "
                 "the others without it")
 
@@ -67,7 +67,7 @@ class Reshape:
     empty: bool = False
 
     def line(self) -> str:
-        """What is said of it."""
+        """Return it as one line of text."""
         out = ", ".join(map(str, sorted(self.before - self.after)))
         return (f"parity changes for good between sectors {self.last} and {self.sector}: before, it matches {len(self.before)} images; after, only "
                 f"{len(self.after)}, without image {out}. A reshape may have stopped there. Or an older array of {len(self.after)} disks follows "
@@ -75,7 +75,7 @@ class Reshape:
                 f". Or nothing is stored on image {out} there, since it is zeros there" * self.empty)
 
     def short(self) -> str:
-        """What is said of it at the end, where no volume has a rating, and how to go on."""
+        """Return what is printed at the end, if no volume has a rating, and how to go on."""
         out, first = ", ".join(map(str, sorted(self.before - self.after))), max(MIB, (self.last + 1) * SECTOR)
         return (f"perhaps a reshape from {len(self.after)} to {len(self.before)} disks stopped between sectors {self.last} and {self.sector}, as "
                 "reported above. Then no single layout gives the whole volume: the first array ends there, and the second begins. To search for the "

@@ -52,7 +52,7 @@ class Image:
         return self.opened.name if self.opened else self.name
 
     def line(self) -> str:
-        """What is said of it."""
+        """Return it as one line of text."""
         parts = [f"image {self.number} {self.called}: {self.sectors} sectors"]
         if self.rest:
             parts[0] += f" and {counted(self.rest, 'byte')} after the last whole sector, which {'is' if self.rest == 1 else 'are'} ignored"

@@ -62,7 +62,7 @@ class Member:
     events: int | None = None
 
     def line(self, name: str) -> str:
-        """What is said of it."""
+        """Return it as one line of text."""
         said = [f"{self.level} of {counted(self.disks, 'disk')}", self.layout, f"chunks of {self.chunk // KIB_SECTORS} KiB" if self.chunk else "",
                 "" if self.slot is None else f"slot {self.slot}", "" if self.offset is None else f"data offset {self.offset} sectors",
                 "" if self.events is None else counted(self.events, "event")]

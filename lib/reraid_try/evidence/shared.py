@@ -41,7 +41,7 @@ class Place:
         return not self.copied and not self.empty and not self.efi
 
     def line(self) -> str:
-        """What is said of it."""
+        """Return it as one line of text."""
         if self.empty:
             what = "zeros in all sampled sectors"
         elif self.copied:

@@ -36,7 +36,7 @@ class Unlike:
     known: Known
 
     def line(self) -> str:
-        """What is said of it."""
+        """Return it as one line of text."""
         return f"the data begin at different sectors of the images; parity matches at these: {', '.join(map(str, self.offsets))}"
 
 

@@ -74,7 +74,7 @@ class Grouped:
     offsets: tuple[int, ...]
 
     def line(self, images: Sequence[Image]) -> str:
-        """What is said of it."""
+        """Return it as one line of text."""
         said = " ".join("=".join(str(images[one].number) for one in group) if len(group) > 1 else f"image {images[group[0]].number} without a copy"
                         for group in self.groups)
         return f"  {'pairs' if self.copies == NEAR_2.copies else 'copies'} {said}: a RAID 0 of {len(self.groups)} disks"

@@ -19,7 +19,7 @@ class Shape:
     foreign: int = 0
 
     def line(self) -> str:
-        """What is said of it."""
+        """Return it as one line of text."""
         said = [f"RAID {self.levels.replace(',', ' or ')} of {self.members} disks"]
         said += [f"{self.missing} missing"] if self.missing else []
         said += [f"{self.foreign} {'image' if self.foreign == 1 else 'images'} left out"] if self.foreign else []

@@ -9,7 +9,7 @@ from .shapes import Shape
 
 
 def names_of(relaxations: tuple[Relaxation, ...]) -> str:
-    """What is said of relaxations."""
+    """Return the names of relaxations as one text."""
     return " and ".join(relaxation.name for relaxation in relaxations)
 
 
@@ -49,6 +49,6 @@ class Step:
         return frozenset().union(*(relaxation.out for relaxation in self.relaxations))
 
     def line(self) -> str:
-        """What is said of it."""
+        """Return it as one line of text."""
         copies = f", {self.copied.line()}" if self.copied else ""
         return f"{self.shape.line()}{copies}; relaxed: {names_of(self.relaxations) or 'nothing'}"

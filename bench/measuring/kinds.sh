@@ -119,10 +119,10 @@ only() {
     awk -v one="$1" '/^group/ { n++; out = $2 == "lvm" && n != one } /^(group|mark)/ && out { next } 1' plan
 }
 
-# cure HOW SET IMAGES PLAN: what passes with such a plan
-cure() {
+# relaxation HOW SET IMAGES PLAN: what passes with such a plan
+relaxation() {
     with=$(list "$3" "$4")
-    echo "$1: ${with% *} of ${with#* }, the true set $(there "$2")" >>cures
+    echo "$1: ${with% *} of ${with#* }, the true set $(there "$2")" >>relaxations
 }
 
 # apart: the plan without the marks of ext that are nearer than 1,000 sectors to one of another block group, as copies in a journal are
@@ -133,24 +133,24 @@ apart() {
         !near' plan plan
 }
 
-# cures ROW SET IMAGES: what passes with one group of LVM2 alone, each in turn, or of ext with misfits, or without what is in a journal
-cures() {
+# relaxations ROW SET IMAGES: what passes with one group of LVM2 alone, each in turn, or of ext with misfits, or without what is in a journal
+relaxations() {
     grep '^group' plan | grep -n lvm | while IFS=: read -r number _; do
         only "$number" >other
-        cure "$1, of LVM2 group $((number - 1)) alone" "$2" "$3" other
+        relaxation "$1, of LVM2 group $((number - 1)) alone" "$2" "$3" other
     done
     case $1 in ext*)
         sed "s/^misfits 0/misfits 10/" plan >other
-        cure "$1, misfits=10" "$2" "$3" other
+        relaxation "$1, misfits=10" "$2" "$3" other
         apart >other
-        cure "$1, marks that lie apart" "$2" "$3" other ;;
+        relaxation "$1, marks that lie apart" "$2" "$3" other ;;
     esac
 }
 
 uname -srm
 echo "| file system | level | sets | by parity alone | with its kind | the true set |"
 echo "|---|---|---|---|---|---|"
-: >cures
+: >relaxations
 for kind in $kinds; do
     make "$kind"
     case $kind in ext*) names=ext ;; lvm-ext4) names=lvm,ext ;; lvm-xfs) names=xfs,lvm ;; *) names=$kind ;; esac
@@ -166,8 +166,8 @@ for kind in $kinds; do
             case $level in 0) word=0:plain:none ;; 5) word=5:ls:none ;; *) word=6:ls:after-q ;; esac
             there=$(there "$word:128:2048:$slots")
             echo "| $kind | $level, $lost lost | ${none#* } | ${none% *} | ${with% *} | $there |"
-            [ "$there" = listed ] || cures "$kind $level, $lost lost" "$word:128:2048:$slots" "$images"
+            [ "$there" = listed ] || relaxations "$kind $level, $lost lost" "$word:128:2048:$slots" "$images"
         done
     done
 done
-cat cures
+cat relaxations

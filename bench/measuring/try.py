@@ -1,6 +1,6 @@
 #!/usr/bin/env python3
 """Runs reraid-try on arrays that it makes: each level with each kind of volume, and traits of real disks, alone and by twos. Prints a
-table: the array, how many sets the defaults of reraid list and whether the true one is among them, what reraid-try had loosened where the true
+table: the array, how many sets the defaults of reraid list and whether the true one is among them, what reraid-try had relaxed where the true
 set came, whether that volume was found clean and its files whole, the seconds, and those of the processors. The last line counts them.
 
 Usage: bench/measuring/try.py [--few] [--from N] [--jobs N] [--keep DIR] [WORD..]
@@ -104,7 +104,7 @@ def judge(array, cache, base, env):
         return f"| {array.name()} | {len(listed)}, {there} | MISSING of {len(found)} | | {took:.1f} | {used:.1f} |", False, took, used
     it = max(same, key=lambda it: it["score"])
     sound = ["not clean", "nothing against it", "clean", "clean, and its files whole"][it["score"]]
-    line = f"| {array.name()} | {len(listed)}, {there} | {len(found)}: {'; '.join(it['loosened']) or 'nothing loosened'} | {sound} |"
+    line = f"| {array.name()} | {len(listed)}, {there} | {len(found)}: {'; '.join(it['loosened']) or 'nothing relaxed'} | {sound} |"
     return f"{line} {took:.1f} | {used:.1f} |", True, took, used
 
 
@@ -128,7 +128,7 @@ def main():
             chosen = [array for array in chosen if array.level == "5" and not array.lost and not array.traits]
         for kind in dict.fromkeys(array.kind for array in chosen):
             plain_volume(kind, cache)
-        print("| array | the defaults list, the true set | reraid-try: candidates, what was loosened | the true volume | seconds | of processors |")
+        print("| array | the defaults list, the true set | reraid-try: candidates, what was relaxed | the true volume | seconds | of processors |")
         print("|---|---|---|---|---|---|")
         good = quick = most = 0
         with concurrent.futures.ThreadPoolExecutor(options.jobs) as pool:

@@ -12,11 +12,11 @@ import sys
 KINDS = ["ext4", "btrfs", "xfs", "ntfs", "lvm2", "gpt", "mbr"]
 TRAITS = ["stray on parity", "superblock at the end", "lengths differ", "earlier file system", "disk image inside", "used earlier", "offsets differ",
           "offset 0", "odd offset", "unreadable areas", "foreign image"]
-SHORT = {"nothing loosened": "", "file records of number 0 left out": "records 0", "offsets 2048,4096, each image its own": "own offsets"}
+SHORT = {"nothing relaxed": "", "file records of number 0 left out": "records 0", "offsets 2048,4096, each image its own": "own offsets"}
 
 
 class Row:
-    """A line: the array's words, how many sets the defaults list, whether the true one is there, the candidates, what was loosened, and the
+    """A line: the array's words, how many sets the defaults list, whether the true one is there, the candidates, what was relaxed, and the
     seconds of the processors."""
 
     def __init__(self, fields):
@@ -28,18 +28,18 @@ class Row:
         self.seconds = float(fields[5])
 
     def cell(self):
-        """The candidates, and what was loosened."""
+        """The candidates, and what was relaxed."""
         return self.found + (f": {'; '.join(self.how)}" if self.how else "")
 
 
 def short(text):
-    """What was loosened, in fewer words."""
+    """What was relaxed, in fewer words."""
     text = re.sub(r"group \d+ \((\w+), (\d+) marks?\)", r"\1 (\2)", text)
     return SHORT.get(text, text)
 
 
 def sort(text):
-    """What was loosened, without its numbers."""
+    """What was relaxed, without its numbers."""
     return "groups" if text.startswith("without ") or text.endswith(" alone") else "badrows" if text.startswith("badrows") else text
 
 
@@ -59,24 +59,24 @@ def of_levels(rows):
 
 
 def of_traits(rows, others):
-    """Each trait alone, and beside it that of a RAID 6: the candidates, and what was loosened where that differs."""
+    """Each trait alone, and beside it that of a RAID 6: the candidates, and what was relaxed where that differs."""
     beside, lines = {row.words[-1]: row for row in others}, []
     for row in rows:
         other = beside.get(row.words[-1])
         lines.append([", ".join(row.words[2:]), row.cell(), "" if other is None else other.found if other.how == row.how else other.cell()])
-    return table(["volume, trait", "candidates: loosened", "RAID 6, 1 lost"], lines)
+    return table(["volume, trait", "candidates: relaxed", "RAID 6, 1 lost"], lines)
 
 
 def said(name, rows):
-    """Of these arrays how many there are, the most candidates, the seconds, what was loosened how often, and what the defaults list."""
+    """Of these arrays how many there are, the most candidates, the seconds, what was relaxed how often, and what the defaults list."""
     seconds = sorted(row.seconds for row in rows)
     most = max((int(row.found) for row in rows if row.found.isdigit()), default=0)
-    loosened = [{sort(it) for it in row.how} for row in rows]
-    often = ", ".join(f"{it} ({times})" for it, times in collections.Counter(it for some in loosened for it in some).most_common())
+    relaxed = [{sort(it) for it in row.how} for row in rows]
+    often = ", ".join(f"{it} ({times})" for it, times in collections.Counter(it for some in relaxed for it in some).most_common())
     there = "; ".join(f"{', '.join(row.words)} ({row.listed})" for row in rows if row.there) or "none"
     wrong = max((row.listed for row in rows if not row.there), default=0)
     return (f"{name}: {len(rows)} arrays, at most {most} candidates, in {seconds[0]} to {seconds[-2:][0]} seconds, the slowest in {seconds[-1]}. "
-            f"Loosened: {often or 'nothing'}; two and more in {sum(len(some) > 1 for some in loosened)}. The defaults list the true set of {there}; "
+            f"Relaxed: {often or 'nothing'}; two and more in {sum(len(some) > 1 for some in relaxed)}. The defaults list the true set of {there}; "
             f"of the others up to {wrong} sets.")
 
 

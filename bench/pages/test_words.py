@@ -190,7 +190,7 @@ class Limits(unittest.TestCase):
         self.assertEqual(words.above({"a": self.FOUND}, {"a": (3, 1, 1, 3)}), ["a: private 4, at most 3 allowed"])
 
     def test_all_words(self) -> None:
-        clear = words.Counts(words.MOST_WORDS, 1, 0, 0, 0, 0, 0, 0)
+        clear = words.Counts(words.MAX_WORDS, 1, 0, 0, 0, 0, 0, 0)
         self.assertEqual(words.above({"a": clear}, {}), [])
         self.assertEqual(len(words.above({"a": clear, "b": words.Counts(1, 1, 0, 0, 0, 0, 0, 0)}, {})), 1)
 

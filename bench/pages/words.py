@@ -35,7 +35,7 @@ LIMITS_HEAD = """\
 LONG, TOO_LONG = 25, 35
 LONG_PERCENT = 5
 # Maximum number of words of all pages.
-MOST_WORDS = 43_800
+MAX_WORDS = 43_800
 HEAD = ("text", "words", "sentences", "over25", "over35", "opening", "where", "if", "private")
 # Not for "if": "where" after a place, or after a verb that takes an indirect question.
 PLACES = """place places folder folders directory directories line lines row rows sector sectors offset position positions point points machine page
@@ -216,7 +216,7 @@ def above(found: dict[str, Counts], held: dict[str, tuple[int, ...]]) -> list[st
         told += [f"{name}: {what} {value}, at most {bound} allowed"
                  for what, value, bound in zip(("over25", "over35", "where-if", "private"), counts.limited, bounds) if value > bound]
     words = sum(counts.words for counts in found.values())
-    return told + ([f"all pages: {words} words, at most {MOST_WORDS} allowed"] if words > MOST_WORDS else [])
+    return told + ([f"all pages: {words} words, at most {MAX_WORDS} allowed"] if words > MAX_WORDS else [])
 
 
 def new_limits(found: dict[str, Counts]) -> str:

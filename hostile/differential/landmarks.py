@@ -129,7 +129,7 @@ def own_table(header, sector, length, unit):
     return length % unit == 0 and unit * header["own"] == sector and (header["own"], header["other"]) in ((1, last), (last, 1))
 
 
-def sightings(images, first, end, kinds, passed_over, unit):
+def hits(images, first, end, kinds, passed_over, unit):
     """The landmark sectors that count, by kind, in order of sector, then image."""
     wanted = {kind for asked in kinds for kind in MARKS_OF[asked]}
 
@@ -174,7 +174,7 @@ def file_systems(heads, rule, others):
 
 
 def gathered(kind, seen, key, rule):
-    """The groups of one kind: of each value of the key, the first of them, the sightings that have it."""
+    """The groups of one kind: of each value of the key, the first of them, the hits that have it."""
     groups = {}
     for sector, place, found in seen[kind]:
         groups.setdefault(key(sector, place, found), []).append(Mark(kind, place, sector, f"at:{rule(found)}"))

@@ -148,7 +148,7 @@ def mft_survey(rng, operands):
 
 
 def crowded_records(rng):
-    """About as many records as make marks, of one table or of two, and about as many sightings as count."""
+    """About as many records as make marks, of one table or of two, and about as many hits as count."""
     volumes = [Volume(8, 4, 2, 1024)] + rng.choice([[], [Volume(8, 5, 2, 1024)], [Volume(8, 4, 3, 1024)]])
     blocks = [plain_boot(volume) for volume in volumes]
     heads = [plain_record(0, [(volume.table, 20000)]) for volume in volumes]

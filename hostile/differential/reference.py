@@ -16,7 +16,7 @@ import relations
 import salvage
 from arrays import Row, Sums, held, layout_name, row_cells, turns, unsound_rows, volume_sector
 from generated import array_images, put_file_system, volume_of
-from landmarks import first_blocks, groups_of, sightings
+from landmarks import first_blocks, groups_of, hits
 from product import Product, page
 from texts import (LEVELS, LISTS, MOST, MOST_RELATED, PATTERNS, RANKS, SECTOR, SYNDROMES, USUAL_KINDS, Plan, Set, Stop, broken_bases,
                    broken_delay, broken_rule, read_plan, read_sets, read_words)
@@ -168,7 +168,7 @@ def survey_plan(given, images):
     unit, end = 8 if given.get("logical") == "4096" else 1, usual_end(given, images)
     asked = asked_values(given, images, end)
     kinds = given.get("kinds", USUAL_KINDS)
-    seen = sightings(images, asked["offsets"][0], end, kinds, set(given.get("drop", [])), unit)
+    seen = hits(images, asked["offsets"][0], end, kinds, set(given.get("drop", [])), unit)
     asked["origins"] = sorted(set(asked["origins"]) | first_blocks(images, seen["gpt"], unit))[:64]
     return Plan([len(image) // SECTOR for image in images], end, asked, groups_of(seen, images, unit, kinds), given.get("mode") == "each")
 

@@ -51,7 +51,7 @@ class Container:
         return self.parts[0]
 
     def line(self) -> str:
-        """What is said of it."""
+        """Return it as one line of text."""
         return f"{self.name}: {self.kind}" + (f" of {len(self.parts)} files" if len(self.parts) > 1 else "")
 
     def shown(self) -> str:

@@ -7,7 +7,7 @@ class OutsideError(Exception):
 
 
 class Refused(OutsideError):
-    """`reraid` refused what it was asked, by a status that no trial expects; the text is its line."""
+    """`reraid` refused what it was asked, by a status that no step expects; the text is its line."""
 
 
 class Stopped(Exception):

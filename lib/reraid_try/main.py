@@ -25,7 +25,7 @@ from .report import table
 from .report.report import Report
 from .units import counted
 
-SIGNED, NONE, OUTSIDE, INTERRUPTED = 0, 1, 3, 130
+RATED, NONE, OUTSIDE, INTERRUPTED = 0, 1, 3, 130
 CLOSED = 128 + signal.SIGPIPE
 # The signals that end a run, which then prints what it found.
 ENDING = (signal.SIGINT, signal.SIGTERM, signal.SIGHUP)
@@ -72,7 +72,7 @@ def clean(room: str | None) -> int:
         else:
             kept = True
             print(f"reraid-try: {it.what()} could not be removed: a program uses it, or it belongs to another user", file=sys.stderr)
-    return OUTSIDE if kept else SIGNED
+    return OUTSIDE if kept else RATED
 
 
 def say_left(room: str | None, report: Report) -> None:
@@ -169,7 +169,7 @@ def searched(search: Search, report: Report, casefile: Casefile) -> int:
         resuming.end(search.memory, report)
         table.show(report, search.tested, search.images)
         search.say_answer()
-        status = SIGNED if search.best() >= Score.CHECKED else NONE
+        status = RATED if search.best() >= Score.CHECKED else NONE
         casefile.end(search, status)
         return status
     except Stopped:

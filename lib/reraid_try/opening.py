@@ -15,7 +15,7 @@ from .intact import fault
 from .units import SECTOR
 
 # Seconds until a container has to be open: an image may lie on a slow disk.
-MOST_SECONDS = 60.0
+MAX_SECONDS = 60.0
 STEP = 0.05
 # The folder of the lines to type, in which each container has one of its own.
 BY_HAND = "opened"
@@ -93,7 +93,7 @@ class Opener:
         with open(os.path.join(self.base, f"opened{len(self.mounts)}.log"), "w+b") as log:
             server = subprocess.Popen(words, stdin=subprocess.DEVNULL, stdout=log, stderr=log, start_new_session=True)
             self.mounts.append(Mount(folder, server))
-            until = time.monotonic() + MOST_SECONDS
+            until = time.monotonic() + MAX_SECONDS
             while not os.path.exists(path) and time.monotonic() < until and (server.poll() is None or server.returncode == 0 and not it.goes_on()):
                 time.sleep(STEP)
             if os.path.exists(path):

@@ -15,10 +15,10 @@ from .report.report import MINUTE
 
 UNITS = {"K": units.KIB, "M": units.MIB, "G": units.GIB, "T": units.TIB}
 LEVELS = ("0", "5", "6", "10")
-LEAST_MEMBERS = 2
-LEAST_FIRST, USUAL_FIRST, USUAL_SECONDS = units.MIB, 16 * units.GIB, 60
-# A question takes this part of the time of a trial at most, and so many seconds at least.
-PART, LEAST_SECONDS = 6, 5
+MIN_MEMBERS = 2
+MIN_FIRST, USUAL_FIRST, USUAL_SECONDS = units.MIB, 16 * units.GIB, 60
+# A question takes this part of the time of a step at most, and so many seconds at least.
+PART, MIN_SECONDS = 6, 5
 
 ABOUT = """\
 Find the layout of a RAID array from images of its disks. reraid-try surveys the images for landmarks and parity, and lists the layouts that
@@ -30,7 +30,7 @@ STATUSES = "status: 0 a candidate is rated + or ++, 1 none is, 2 wrong arguments
 
 @dataclasses.dataclass(frozen=True)
 class Options:
-    """What is asked for. `first` is how many bytes of each image are read, `seconds` how long a trial may take, `question` how long a question,
+    """What is asked for. `first` is how many bytes of each image are read, `seconds` how long a step may take, `question` how long a question,
     where that is not the usual part of it, `members` the numbers of members that are tried, None where hints say them, `report` the file of the
     page, `hashes` whether digests are taken, `raw` whether images in containers are searched as they are, `resume` the file that keeps what was
     answered, `opened` the containers that were opened, `every` after how many seconds a line says what is at work. `clean` asks to
@@ -60,7 +60,7 @@ class Options:
     @property
     def question_seconds(self) -> int:
         """How long a question may take."""
-        return self.question or max(LEAST_SECONDS, self.seconds // PART)
+        return self.question or max(MIN_SECONDS, self.seconds // PART)
 
     def wants(self, level: str) -> bool:
         """This level is to be tried."""
@@ -74,7 +74,7 @@ def size(text: str) -> int:
     if not digits.isdecimal():
         raise argparse.ArgumentTypeError(f"{text}: give a size in bytes, or with K, M, G or T, such as 16G")
     value = int(digits) * unit
-    if value < LEAST_FIRST:
+    if value < MIN_FIRST:
         raise argparse.ArgumentTypeError(f"{text}: give at least 1M")
     return value
 
@@ -84,8 +84,8 @@ def members(text: str) -> tuple[int, ...]:
     if not all(part.isdecimal() for part in text.split(",")):
         raise argparse.ArgumentTypeError(f"{text}: give numbers of disks, separated by commas, such as 4,5")
     values = tuple(int(part) for part in text.split(","))
-    if not all(LEAST_MEMBERS <= value <= units.MOST_IMAGES for value in values):
-        raise argparse.ArgumentTypeError(f"{text}: give numbers of disks from {LEAST_MEMBERS} to {units.MOST_IMAGES}")
+    if not all(MIN_MEMBERS <= value <= units.MAX_IMAGES for value in values):
+        raise argparse.ArgumentTypeError(f"{text}: give numbers of disks from {MIN_MEMBERS} to {units.MAX_IMAGES}")
     return values
 
 
@@ -145,8 +145,8 @@ def read_words(words: Sequence[str]) -> Options:
     if (wrong := names.faults(it.images)):
         asking.error("; ".join(wrong))
     # Of an image in many files all may be named.
-    if len(it.images) > units.MOST_IMAGES and len(containers.known(it.images, it.raw).images) > units.MOST_IMAGES:
-        asking.error(f"{len(it.images)} images: at most {units.MOST_IMAGES} can be searched at once")
+    if len(it.images) > units.MAX_IMAGES and len(containers.known(it.images, it.raw).images) > units.MAX_IMAGES:
+        asking.error(f"{len(it.images)} images: at most {units.MAX_IMAGES} can be searched at once")
     if it.room and not os.path.isdir(it.room):
         asking.error(f"--room {it.room}: this is not a folder")
     if not it.clean and not shutil.which("reraid"):

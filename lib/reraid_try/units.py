@@ -10,7 +10,7 @@ ALL = 1 << 62
 # Blocks in which a volume may count itself, beside sectors.
 LARGE_BLOCK = 4096
 # The number of disks at most.
-MOST_IMAGES = 24
+MAX_IMAGES = 24
 
 
 def counted(number: int, noun: str) -> str:

@@ -17,7 +17,7 @@ from reraid_try.checks.verdicts import Finding, Verdict
 from reraid_try.checks.volumes import Region, Volume
 from reraid_try.checks.wholes import Wholes
 from reraid_try.evidence import copies, entropy, homes, linear, pools
-from reraid_try.evidence.families import Family
+from reraid_try.evidence.image_groups import ImageGroup
 from reraid_try.evidence.heads import Head
 from reraid_try.evidence.images import Image
 from reraid_try.evidence.pools import Device
@@ -256,7 +256,7 @@ class ByItself(Disks):
         found = self.answer(disks)
         self.assertIn("1 device is missing", found.text if found else "")
         self.assertTrue(found and found.commands[-1].startswith("mount -t btrfs -o ro,rescue=nologreplay,degraded UUID=12345678"))
-        self.assertIsNone(self.kind(*disks, verdict=Verdict(), known=[Known(Family((0, 1, 2), 90, 0, 99, "5", 1))]))
+        self.assertIsNone(self.kind(*disks, verdict=Verdict(), known=[Known(ImageGroup((0, 1, 2), 90, 0, 99, "5", 1))]))
         labels = [self.image(number, (16 * KIB, zfs(b"tank"))) for number in range(2)]
         self.assertEqual(self.kind(*labels), Kind.ZFS)
         self.assertIsNone(self.kind(labels[0], self.image(1, (16 * KIB, zfs(b"tank")), (MIB, ext(9000)))))
@@ -293,9 +293,9 @@ class Late(Disks):
         self.assertEqual(found.kind if found else None, Kind.LOST)
         self.assertIn("the ext4 that begins at sector 2048 of image 0 states that it has 30000 sectors. 3 images of at most 8192 sectors cannot hold "
                       "it, with parity or without: it needs at least 4.", found.text if found else "")
-        self.assertIsNone(self.late(some, Told((Known(Family((0, 1, 2), 90, 0, 99, "5", 1)),), (), True)))
+        self.assertIsNone(self.late(some, Told((Known(ImageGroup((0, 1, 2), 90, 0, 99, "5", 1)),), (), True)))
         # Few rows are tied, as if one disk of four were lost: even then the file system is too long.
-        barely = self.late(some, Told((Known(Family((0, 1, 2), 90, 0, 99, "5", 0)),), (), True))
+        barely = self.late(some, Told((Known(ImageGroup((0, 1, 2), 90, 0, 99, "5", 0)),), (), True))
         self.assertEqual(barely.kind if barely else None, Kind.LOST)
 
     def test_encrypted(self) -> None:
@@ -303,7 +303,7 @@ class Late(Disks):
         noise = random.Random(5).randbytes(MIB)
         luks = [self.image(0, (0, b"LUKS\xba\xbe\0\1"), (MIB, noise), heads=(Head("luks", 0, 0),)), self.image(1, (MIB, noise))]
         for some, told, kind in ((luks, Told(asked=True), Kind.ENCRYPTED), (luks[1:], Told(asked=True), Kind.ENCRYPTED), (luks, Told(), None),
-                                 (luks, Told((Known(Family((0, 1, 2), 90, 0, 99, "5", 1)),), (), True), None),
+                                 (luks, Told((Known(ImageGroup((0, 1, 2), 90, 0, 99, "5", 1)),), (), True), None),
                                  ([*luks, self.image(2, (0, ext(4000)))], Told(asked=True), None),
                                  ([*luks[1:], self.image(3, (MIB, b"text " * 90000))], Told(asked=True), None)):
             self.assertEqual(getattr(self.late(some, told), "kind", None), kind)
@@ -311,7 +311,7 @@ class Late(Disks):
     def test_closed(self) -> None:
         """All volumes in which something is known are encrypted: their sets are left to be tried with the key."""
         it = candidate(verdict=Verdict([Finding("", "crypto_LUKS")], length=9))
-        found = self.late([self.image(0)], Told((Known(Family((0, 1, 2), 90, 0, 99, "5", 1)),), (), True), [it, candidate()])
+        found = self.late([self.image(0)], Told((Known(ImageGroup((0, 1, 2), 90, 0, 99, "5", 1)),), (), True), [it, candidate()])
         self.assertIn("encrypted (crypto_LUKS): 1 layout that parity and zeros allow", found.text if found else "")
         self.assertIsNone(answers.closed([it, candidate(verdict=whole())]))
         self.assertIsNone(answers.closed([]))

@@ -6,7 +6,7 @@ import unittest
 from reraid_try.calls import formats, plans, sets, surveys
 from reraid_try.calls.formats import Held, Ranked
 from reraid_try.calls.plans import Bounds, Mark, read_plan
-from reraid_try.calls.program import LAST, MOST_LINES, SPAN, Copied, Program
+from reraid_try.calls.program import LAST, MAX_LINES, SPAN, Copied, Program
 from reraid_try.calls.sets import read_word, simplest
 from reraid_try.calls.surveys import KINDS, Request, Surveys
 from reraid_try.errors import OutsideError, Refused, said, said_of
@@ -321,7 +321,7 @@ class Programs(unittest.TestCase):
         program, standin = self.listed(10, {0: put("3 5:a\n4 5:b\nnext 10 of 10\n")})
         listing = program.listing(read_plan(PLAN))
         self.assertEqual((len(listing.sets), listing.total, listing.whole, listing.line()), (2, 10, True, "2 of 10 layouts pass"))
-        self.assertIn(f"size={MOST_LINES}", standin.asked[1][0])
+        self.assertIn(f"size={MAX_LINES}", standin.asked[1][0])
 
     def test_listing_of_nothing(self) -> None:
         program, standin = self.listed(0, {})
@@ -340,9 +340,9 @@ class Programs(unittest.TestCase):
         program, _ = self.listed(10, {0: put("3 5:a\n", None)})
         listing = program.listing(read_plan(PLAN))
         self.assertEqual((listing.whole, listing.note), (False, "timed out after 5 s, before all were tested"))
-        full = "".join(f"{k} 5:a\n" for k in range(MOST_LINES))
-        program, _ = self.listed(MOST_LINES + 5, {0: put(full + f"next {MOST_LINES} of {MOST_LINES + 5}\n")})
-        self.assertEqual(program.listing(read_plan(PLAN)).note, f"more than {MOST_LINES} pass")
+        full = "".join(f"{k} 5:a\n" for k in range(MAX_LINES))
+        program, _ = self.listed(MAX_LINES + 5, {0: put(full + f"next {MAX_LINES} of {MAX_LINES + 5}\n")})
+        self.assertEqual(program.listing(read_plan(PLAN)).note, f"more than {MAX_LINES} pass")
 
     def test_classes(self) -> None:
         words = [read_word("5:ls:none:8:0:0,1,2"), read_word("5:ls:none:8:0:1,0,2")]
@@ -356,7 +356,7 @@ class Programs(unittest.TestCase):
         program, _ = self.program()
         self.assertEqual(program.mirror_words(Copied((sets.NEAR_2,), 4, 1), 7, [2048, 0], 99, 50),
                          ["reraid", "mirrors", "members=4", "offsets=0,2048", "end=99", "missing=1", "badrows=7", "chunks=8", "window=50",
-                          f"size={MOST_LINES}", "--", "a", "b"])
+                          f"size={MAX_LINES}", "--", "a", "b"])
         self.assertNotIn("chunks=8", program.mirror_words(Copied((sets.NEAR_2,), 3), 0, [0], 99, 50))
         far = Copied(tuple(sets.Copying("far", copies) for copies in (2, 3)), 6, 2, (128, 64))
         self.assertEqual(program.mirror_words(far, 0, [2048], 99, 50)[2:7],

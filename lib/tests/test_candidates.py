@@ -29,10 +29,10 @@ from reraid_try.evidence.images import Image
 from reraid_try.evidence.maps import Map
 from reraid_try.opening import Opened
 from reraid_try.options import Options
-from reraid_try.policy import cures
-from reraid_try.policy.hunt import Hunt
+from reraid_try.policy import relaxations
+from reraid_try.policy.scope import Scope
 from reraid_try.policy.shapes import Shape
-from reraid_try.policy.trials import Trial
+from reraid_try.policy.steps import Step
 from reraid_try.report import report, table, words
 from reraid_try.report.report import Report
 from reraid_try.units import SECTOR
@@ -43,14 +43,14 @@ SET = "5:ls:none:128:2048:0,1,2"
 
 
 class Known:
-    """What stands for the evidence of a hunt."""
+    """What stands for the evidence of a scope."""
 
     filled, window, start, end, unread = 1000, 8000, 0, 8000, 0
     images = tuple(Image(f"i{k}", k, 8000) for k in range(4))
 
 
 class Over:
-    """What stands for a hunt."""
+    """What stands for a scope."""
 
     def __init__(self, *answers: tuple[str, object]) -> None:
         self.standin = Standin(*answers)  # type: ignore[arg-type]
@@ -63,18 +63,18 @@ class Over:
         """The survey of a request."""
         return self.plan
 
-    def checked_by(self, _: Trial) -> object:
+    def checked_by(self, _: Step) -> object:
         """The plan with which `check` is asked."""
         return self.plan
 
     def word(self, text: str) -> Word:
-        """A set of this hunt, over all images."""
+        """A set of this scope, over all images."""
         word = read_word(text)
         return word.having(tuple(None if slot is None else self.evidence.images[slot].number for slot in word.slots))
 
 
 class OfPlan(Over):
-    """What stands for a hunt, and for its surveys."""
+    """What stands for a scope, and for its surveys."""
 
     def __init__(self, *answers: tuple[str, object]) -> None:
         super().__init__(*answers)
@@ -91,9 +91,9 @@ class OfPlan(Over):
             return self.made
 
 
-def hunt_of(*answers: tuple[str, object]) -> Hunt:
-    """A hunt of which `reraid` says this."""
-    return cast(Hunt, OfPlan(*answers))
+def scope_of(*answers: tuple[str, object]) -> Scope:
+    """A scope of which `reraid` says this."""
+    return cast(Scope, OfPlan(*answers))
 
 
 def whole(clean: bool | None = True, longest: int = 1 << 20, kind: str = "xfs") -> Verdict:
@@ -101,13 +101,13 @@ def whole(clean: bool | None = True, longest: int = 1 << 20, kind: str = "xfs") 
     return Verdict([Finding("", kind, clean, "said", (Piece(0, 1000),))], Wholes(1, int(longest > 0), longest), [], 1000, 10, 100)
 
 
-def candidate(text: str = SET, verdict: Verdict | None = None, chosen: Sequence[cures.Cure] = (), number: int = 1, rank: int = 0,
+def candidate(text: str = SET, verdict: Verdict | None = None, chosen: Sequence[relaxations.Relaxation] = (), number: int = 1, rank: int = 0,
               **values: object) -> Candidate:
-    """A candidate of a trial."""
+    """A candidate of a step."""
     word = read_word(text)
-    trial = Trial(Shape(word.level, len(word.slots), word.lost), tuple(chosen), BASE, number)
-    hunt = cast(Hunt, values.pop("hunt", None) or hunt_of())
-    return Candidate(word, rank, trial, hunt, listed=None if word.is_mirrored else word, verdict=verdict, **values)  # type: ignore[arg-type]
+    step = Step(Shape(word.level, len(word.slots), word.lost), tuple(chosen), BASE, number)
+    scope = cast(Scope, values.pop("scope", None) or scope_of())
+    return Candidate(word, rank, step, scope, listed=None if word.is_mirrored else word, verdict=verdict, **values)  # type: ignore[arg-type]
 
 
 def place(it: Candidate) -> tuple[int, int, tuple[int, str, int], tuple[int, int, int]]:
@@ -125,25 +125,25 @@ class OfCandidates(unittest.TestCase):
 
     def test_most_marks_left_out(self) -> None:
         plan = plan_of(XFS, EXT)
-        out = Trial(Shape("5", 3), (cures.group_cures(plan, True)[1],))
+        out = Step(Shape("5", 3), (relaxations.group_relaxations(plan, True)[1],))
         self.assertEqual(out.out, frozenset({0}))
         self.assertTrue(left_most(out, plan, (Held("xfs"), Held("ext", 0, 1, 0))))
         self.assertTrue(left_most(out, plan, (Held("xfs", 0, 1, 2), Held("ext"))))
         self.assertFalse(left_most(out, plan, (Held("xfs", 0, 2, 0), Held("ext"))))
-        self.assertFalse(left_most(Trial(Shape("5", 3)), plan, (Held("xfs"), Held("ext"))))
-        self.assertFalse(left_most(Trial(Shape("5", 3), (cures.group_cures(plan, False)[0],)), plan, (Held("xfs"), Held("ext"))))
+        self.assertFalse(left_most(Step(Shape("5", 3)), plan, (Held("xfs"), Held("ext"))))
+        self.assertFalse(left_most(Step(Shape("5", 3), (relaxations.group_relaxations(plan, False)[0],)), plan, (Held("xfs"), Held("ext"))))
 
     def test_less_than_half_of_the_marks_left_out(self) -> None:
         plan = plan_of(XFS, NTFS)
-        out = Trial(Shape("5", 3), (cures.group_cures(plan, True)[0],))
+        out = Step(Shape("5", 3), (relaxations.group_relaxations(plan, True)[0],))
         self.assertEqual((out.out, left_most(out, plan, (Held("xfs"), Held("ntfs")))), (frozenset({0}), False))
 
-    def test_one_sign_less_then(self) -> None:
+    def test_one_plus_less_then(self) -> None:
         self.assertEqual([candidate(verdict=whole(longest=size), left_most=True).score for size in (1 << 20, 50)], [Score.CHECKED, Score.KNOWN])
         self.assertEqual(candidate(verdict=whole(), left_most=True).doubts, ["a landmark group with most landmarks was left out"])
         self.assertEqual(candidate(verdict=whole(False), left_most=True).score, Score.NOTHING)
 
-    def test_files_that_tell_the_order_of_chunks_keep_one_sign(self) -> None:
+    def test_files_that_tell_the_order_of_chunks_keep_one_plus(self) -> None:
         verdict = whole(longest=50)
         verdict.files.long = Wholes(16, 12, 50, joined=10)
         kept = candidate(verdict=verdict, left_most=True)
@@ -152,7 +152,7 @@ class OfCandidates(unittest.TestCase):
         lost = candidate(verdict=verdict, left_most=True)
         self.assertEqual((lost.score, lost.doubts), (Score.KNOWN, ["a landmark group with most landmarks was left out"]))
 
-    def test_no_sign_against_marks_without_a_whole_file(self) -> None:
+    def test_no_rating_against_marks_without_a_whole_file(self) -> None:
         """A checker that reads little of a file system may be content with a wrong order; marks that do not fit and files that are broken are not."""
         broken = whole(longest=0)
         for held, count, score in ((Held("xfs", 0, 12, 6), 1, Score.KNOWN), (Held("xfs", 0, 12, 0), 1, Score.CHECKED),
@@ -168,10 +168,10 @@ class OfCandidates(unittest.TestCase):
         long = Verdict([Finding("", "vfat", pieces=(Piece(0, 1024),), told=2048, there=1024)], Wholes(1, 1, 1 << 20), length=1024)
         for text, lengths, verdict, said in (("0:plain:none:8:0:0,1", (8000, 9000), long, 2), ("0:plain:none:8:0:0,1", (8000, 8000), long, 1),
                                              (SET, (8000, 9000), long, 1), ("0:plain:none:8:0:0,1", (8000, 9000), whole(), 0)):
-            hunt = hunt_of()
+            scope = scope_of()
             evidence = types.SimpleNamespace(images=[Image("i", k, length) for k, length in enumerate(lengths)], filled=1000)
-            setattr(hunt, "evidence", evidence)
-            it = candidate(text, verdict, hunt=hunt)
+            setattr(scope, "evidence", evidence)
+            it = candidate(text, verdict, scope=scope)
             self.assertEqual((len(it.doubts), it.score), (said, Score.KNOWN if said else Score.WHOLE))
             self.assertEqual([doubt for doubt in it.doubts if doubt.startswith("the images differ")], it.doubts[1:])
 
@@ -180,11 +180,11 @@ class OfCandidates(unittest.TestCase):
         ends = []
         for text in ("far2:8:0:0,1", "near2:8:0:0,1"):
             it = candidate(text)
-            it.trial = dataclasses.replace(it.trial, copied=Copied((NEAR_2,), 2, end=77))
+            it.step = dataclasses.replace(it.step, copied=Copied((NEAR_2,), 2, end=77))
             ends.append(it.end)
         self.assertEqual((ends, candidate("far2:8:0:0,1").end), ([77, None], None))
 
-    def test_printed_by_sign_fits_and_members(self) -> None:
+    def test_printed_by_rating_fits_and_members(self) -> None:
         fits = (Held("xfs", 0, 12, 0),)
         order = [candidate(verdict=whole(), number=9), candidate(verdict=whole(longest=50), number=8, groups=fits),
                  candidate(verdict=whole(longest=50), number=1), candidate(verdict=whole(None, 0), number=7, groups=fits),
@@ -243,18 +243,18 @@ class Kin(unittest.TestCase):
         self.assertEqual(self.inside("0:plain:none:8:0:0,1", "0:plain:none:8:7:0,1"), [None, None])
         self.assertEqual(self.inside("near2:8:0:0,1,2", "near2:8:8:0,1,2"), [None, None])
 
-    def signs(self, good: str, *texts: str, start: int = 0) -> list[str]:
-        """Of sets with a content checker what sign each has beside one with long whole files, whose part of the disks begins at some sector."""
-        signs = []
+    def ratings(self, good: str, *texts: str, start: int = 0) -> list[str]:
+        """Of sets with a content checker what rating each has beside one with long whole files, whose part of the disks begins at some sector."""
+        ratings = []
         for text in texts:
-            other = hunt_of()
+            other = scope_of()
             setattr(other, "evidence", types.SimpleNamespace(start=start, end=9000, filled=1000))
-            first, content = candidate(good, whole(), hunt=other), candidate(text, self.found())
+            first, content = candidate(good, whole(), scope=other), candidate(text, self.found())
             order = kin.in_order([content, first], self.images)
             self.assertEqual((order[0], first.score), (first, Score.WHOLE))
             self.assertEqual([it.score for it in kin.in_order(order, self.images)], [it.score for it in order])
-            signs.append(content.score.sign)
-        return signs
+            ratings.append(content.score.rating)
+        return ratings
 
     def found(self, files: int = 0, whole_ones: int = 0) -> Verdict:
         """A volume with a content checker, and so many files, some of them whole."""
@@ -263,47 +263,47 @@ class Kin(unittest.TestCase):
     def test_contradicted_by_one_with_long_whole_files(self) -> None:
         others = ("5:rs:none:128:2048:0,1,2", "5:ls:none:64:2048:0,1,2", "5:ls:none:128:2048:1,0,2", "0:plain:none:128:2048:5,3",
                   "5:ls:none:128:0:0,1,2")
-        self.assertEqual(self.signs(SET, *others), [""] * 5)
+        self.assertEqual(self.ratings(SET, *others), [""] * 5)
         # The same volume, one that begins inside the other, either way, the same with a disk left out, and other images.
         related = (SET, "5:ls:none:128:2048:5,1,2", "5:ls:none:128:2176:2,0,1", "5:ls:none:128:1920:1,2,0", "5:ls:none:128:2048:0,-,2",
                    "0:plain:none:128:2048:3,4")
-        self.assertEqual(self.signs(SET, *related), ["+"] * 6)
-        self.assertEqual(self.signs(SET, *others, start=8000), ["+"] * 5)
+        self.assertEqual(self.ratings(SET, *related), ["+"] * 6)
+        self.assertEqual(self.ratings(SET, *others, start=8000), ["+"] * 5)
         # An image that stands in another slot, and the same with fewer images.
-        self.assertEqual(self.signs("5:ls:none:128:2048:0,1,-,2", "5:ls:none:128:2048:0,1,2,-", "5:ls:none:128:2048:0,-,1,2"), ["", ""])
-        self.assertEqual(self.signs("6:ls:after-q:128:2048:0,1,-,2", "6:ls:after-q:128:2048:0,1,-,-", "6:ls:after-q:128:2048:0,1,3,-"), ["+", "+"])
+        self.assertEqual(self.ratings("5:ls:none:128:2048:0,1,-,2", "5:ls:none:128:2048:0,1,2,-", "5:ls:none:128:2048:0,-,1,2"), ["", ""])
+        self.assertEqual(self.ratings("6:ls:after-q:128:2048:0,1,-,2", "6:ls:after-q:128:2048:0,1,-,-", "6:ls:after-q:128:2048:0,1,3,-"), ["+", "+"])
         doubted = candidate("5:rs:none:128:2048:0,1,2", Verdict([Finding("", "xfs", True, "said", (Piece(0, 1000),))], length=1000))
         kin.in_order([doubted, candidate(SET, whole())], self.images)
         self.assertEqual((doubted.score, doubted.doubts), (Score.KNOWN, ["another layout of these images, which contradicts it, has long intact "
                                                                          "files"]))
 
     def test_contradicted_by_one_with_whole_files(self) -> None:
-        """Of two sets with one sign, that in which files were found and none is whole has none beside one with a whole file."""
+        """Of two sets with one plus, that in which files were found and none is whole has none beside one with a whole file."""
         broken = candidate(SET, self.found(3, 0))
         kin.in_order([broken, candidate("5:la*16:none:128:2048:0,1,2", self.found(3, 1))], self.images)
         self.assertEqual(broken.doubts, ["another layout of these images, which contradicts it, has intact files, and this one has none"])
 
     def test_contradicted_by_one_with_as_much(self) -> None:
-        """Of two sets with one sign that has none beside which the other has as many whole files and as many fits, so that neither has one where they
+        """Of two sets with one plus that has none beside which the other has as many whole files and as many fits, so that neither has one where they
         are as many."""
         right, same = "5:la*16:none:128:2048:0,1,2", "5:ls:none:128:2048:5,1,2"
-        for files, other, text, fits, signs in (((3, 0), (3, 1), right, (), ("", "+")), ((0, 0), (3, 1), right, (), ("", "+")),
-                                                ((3, 0), (3, 0), right, (), ("", "")), ((3, 1), (3, 1), right, (), ("", "")),
-                                                ((3, 0), (3, 1), same, (), ("+", "+")), ((3, 1), (3, 1), right, (9, 8), ("+", "")),
-                                                ((3, 1), (3, 1), right, (8, 9), ("", "+")), ((4, 1), (9, 2), right, (9, 8), ("+", "+"))):
+        for files, other, text, fits, ratings in (((3, 0), (3, 1), right, (), ("", "+")), ((0, 0), (3, 1), right, (), ("", "+")),
+                                                  ((3, 0), (3, 0), right, (), ("", "")), ((3, 1), (3, 1), right, (), ("", "")),
+                                                  ((3, 0), (3, 1), same, (), ("+", "+")), ((3, 1), (3, 1), right, (9, 8), ("+", "")),
+                                                  ((3, 1), (3, 1), right, (8, 9), ("", "+")), ((4, 1), (9, 2), right, (9, 8), ("+", "+"))):
             some = [candidate(SET, self.found(*files)), candidate(text, self.found(*other))]
             for it, count in zip(some, fits):
                 it.groups = (Held("xfs", 0, count, 0),)
             for _ in range(2):
                 kin.in_order(some, self.images)
-                self.assertEqual(tuple(it.score.sign for it in some), signs)
+                self.assertEqual(tuple(it.score.rating for it in some), ratings)
         alike = [candidate(text, self.found()) for text in (SET, right)]
         kin.in_order(alike, self.images)
         why = "another layout of these images, which contradicts it, is supported as well: at most one of them is right"
         self.assertEqual([it.doubts for it in alike], [[why], [why]])
 
     def test_rows_of_nothing_before_the_volume(self) -> None:
-        """Of sets of which one has rows before the volume of another, with nothing known in them, that has the sign whose volume begins with
+        """Of sets of which one has rows before the volume of another, with nothing known in them, that has the rating whose volume begins with
         something."""
         row = 256 * SECTOR
 
@@ -313,13 +313,13 @@ class Kin(unittest.TestCase):
             findings.append(Finding(f"at {first // SECTOR}", "xfs", clean, "said", (Piece(first, 100 * row),)))
             return Verdict(findings, Wholes(1, 1, 1 << 20), [], 110 * row, row // 2, row)
         later, earlier = "5:ls:none:128:2048:0,1,2", "5:ls:none:128:1024:2,0,1"
-        for verdicts, signs in (((found(0), found(8 * row)), ("++", "")), ((found(0), found(8 * row, True)), ("++", "++")),
-                                ((found(0), found(0)), ("++", "++")), ((found(8 * row), found(16 * row)), ("++", "++")),
-                                ((found(0, clean=False), found(8 * row)), ("", "++"))):
+        for verdicts, ratings in (((found(0), found(8 * row)), ("++", "")), ((found(0), found(8 * row, True)), ("++", "++")),
+                                  ((found(0), found(0)), ("++", "++")), ((found(8 * row), found(16 * row)), ("++", "++")),
+                                  ((found(0, clean=False), found(8 * row)), ("", "++"))):
             some = [candidate(text, verdict) for text, verdict in zip((later, earlier), verdicts)]
             for _ in range(2):
                 kin.in_order(some, self.images)
-                self.assertEqual(tuple(it.score.sign for it in some), signs)
+                self.assertEqual(tuple(it.score.rating for it in some), ratings)
         some = [candidate(later, found(0)), candidate(earlier, found(8 * row))]
         kin.in_order(some, self.images)
         self.assertEqual(some[1].doubts, ["what is found in it begins after its first 8 stripes, at the start of the volume of another layout"])
@@ -361,36 +361,36 @@ class Damaged(unittest.TestCase):
     def test_lesser(self) -> None:
         it = damage.lesser(candidate("6:ls-6:after-q:128:2048:0,1,2,3", unsound=9), frozenset({3}))
         self.assertEqual((it.word.text, it.listed and it.listed.text), (SET, "6:ls-6:after-q:128:2048:0,1,2,-"))
-        self.assertEqual((it.trial.loosened, it.trial.shape.missing, it.unsound, it.whole and it.whole.unsound), (["without image 3"], 1, None, 9))
+        self.assertEqual((it.step.relaxed, it.step.shape.missing, it.unsound, it.whole and it.whole.unsound), (["without image 3"], 1, None, 9))
 
-    def test_no_sign_beside_one_without_unsound_rows(self) -> None:
-        """A set has no sign where it has none of its unsound rows without an image, as long as parity still tells, and no less speaks for that."""
-        for text, without, unsound, verdict, signs in (("6:ls:after-q:128:2048:0,1,2,3", 2, 0, whole(), ("", "++")),
-                                                       ("6:ls:after-q:128:2048:0,1,2,3", 2, 1, whole(), ("++", "++")),
-                                                       ("6:ls:after-q:128:2048:0,1,2,3", 2, 0, whole(longest=0), ("++", "+")),
-                                                       (SET, 2, 0, whole(), ("++", "++"))):
+    def test_no_rating_beside_one_without_unsound_rows(self) -> None:
+        """A set has no rating where it has none of its unsound rows without an image, as long as parity still tells, and no less speaks for that."""
+        for text, without, unsound, verdict, ratings in (("6:ls:after-q:128:2048:0,1,2,3", 2, 0, whole(), ("", "++")),
+                                                         ("6:ls:after-q:128:2048:0,1,2,3", 2, 1, whole(), ("++", "++")),
+                                                         ("6:ls:after-q:128:2048:0,1,2,3", 2, 0, whole(longest=0), ("++", "+")),
+                                                         (SET, 2, 0, whole(), ("++", "++"))):
             it = candidate(text, whole(), unsound=7)
             lesser = damage.lesser(it, frozenset({without}))
             lesser.verdict, lesser.unsound = verdict, unsound
-            self.assertEqual(damage.is_sounder(lesser, it), signs[0] == "")
+            self.assertEqual(damage.is_sounder(lesser, it), ratings[0] == "")
             kin.in_order([it, lesser], Known.images)
-            self.assertEqual((it.score.sign, lesser.score.sign), signs)
+            self.assertEqual((it.score.rating, lesser.score.rating), ratings)
         it = candidate("6:ls:after-q:128:2048:0,1,2,3", whole(), unsound=7)
         lesser = damage.lesser(it, frozenset({2}))
         lesser.verdict, lesser.unsound = whole(), 0
         kin.in_order([it, lesser], Known.images)
         self.assertEqual(it.doubts, ["7 inconsistent rows, and none without image 2, which is old, damaged or from another array there"])
 
-    def test_no_sign_beside_one_with_more_whole_files(self) -> None:
-        """A set with unsound rows has no sign where more files are whole without an image, whether parity tells then or not."""
-        for text, more, score, signs in ((SET, 1, 9, ("", "++")), ("6:ls:after-q:128:2048:0,1,2,3", 1, 9, ("", "++")), (SET, 0, 9, ("++", "++")),
-                                         (SET, 1, 0, ("++", "+"))):
+    def test_no_rating_beside_one_with_more_whole_files(self) -> None:
+        """A set with unsound rows has no rating where more files are whole without an image, whether parity tells then or not."""
+        for text, more, score, ratings in ((SET, 1, 9, ("", "++")), ("6:ls:after-q:128:2048:0,1,2,3", 1, 9, ("", "++")), (SET, 0, 9, ("++", "++")),
+                                           (SET, 1, 0, ("++", "+"))):
             it = candidate(text, whole(), unsound=7)
             lesser = damage.lesser(it, frozenset({2}))
             lesser.verdict, lesser.unsound = whole(longest=score and it.found.files.longest), 3
             lesser.verdict.files = dataclasses.replace(lesser.verdict.files, whole=it.found.files.whole + more, found=it.found.files.found + more)
             kin.in_order([it, lesser], Known.images)
-            self.assertEqual((it.score.sign, lesser.score.sign), signs)
+            self.assertEqual((it.score.rating, lesser.score.rating), ratings)
         it = candidate(SET, whole(), unsound=7)
         lesser = damage.lesser(it, frozenset({2}))
         lesser.verdict = whole()
@@ -409,14 +409,14 @@ class OfRows(unittest.TestCase):
         return "reraid check", answer
 
     def test_bounds(self) -> None:
-        found = Rows(hunt_of(self.unsound(7, 300, 999)))
+        found = Rows(scope_of(self.unsound(7, 300, 999)))
         near = Near(SET, plan_of(XFS))
         self.assertTrue(found.ask(near))
         self.assertEqual((near.told.unsound, found.bounds(near)), (3, Bounds(7, 999)))
         self.assertEqual(near.line(Bounds(7, 999)), f"  {SET}: 3 of 1000 rows inconsistent, first 7 and last 999; no landmarks")
         near.told = dataclasses.replace(near.told, seconds=rows.SLOW)
         self.assertEqual(found.bounds(near), Bounds())
-        self.assertFalse(Rows(hunt_of(("reraid check", Answer(None)))).ask(near))
+        self.assertFalse(Rows(scope_of(("reraid check", Answer(None)))).ask(near))
         self.assertEqual(near.told.unsound, 3)
 
     def test_in_words(self) -> None:
@@ -429,7 +429,7 @@ class OfRows(unittest.TestCase):
         self.assertEqual([Bounds(0, 12).text(), Bounds(7).text(), Bounds(None, 7).text()], [", first 0 and last 12", "", ""])
 
     def test_whole(self) -> None:
-        found = Rows(hunt_of(self.unsound()))
+        found = Rows(scope_of(self.unsound()))
         self.assertEqual(found.whole(candidate()), "parity is consistent in all 1000 rows")
         self.assertEqual(found.whole(candidate("5:ls:none:8:0:0,1,-")), "no parity is left to test with 1 empty slot")
         self.assertEqual(found.whole(candidate("0:plain:none:8:0:0,1")), "RAID 0 has no parity to test")
@@ -438,25 +438,25 @@ class OfRows(unittest.TestCase):
         self.assertEqual(found.whole(left_out), "with what is left out for bad rows, 5 rows tested inconsistent")
 
     def test_old_image(self) -> None:
-        hunt = hunt_of(self.unsound(600, 601, 700))
-        found = Rows(hunt).old(candidate("6:ls:by-data:128:2048:0,-,1,2"))
+        scope = scope_of(self.unsound(600, 601, 700))
+        found = Rows(scope).old(candidate("6:ls:by-data:128:2048:0,-,1,2"))
         self.assertEqual([it.text(["a", "b", "c", "d.img"]) for it in found],
                          ["d.img is old or damaged from row 600 on, or from another array. In slot 1, parity is consistent with it in all but 3 of "
                           "1000 rows"])
-        asked = cast(OfPlan, hunt).standin.asked[0][0]
+        asked = cast(OfPlan, scope).standin.asked[0][0]
         self.assertIn("set=6:ls:by-data:128:2048:0,3,1,2", asked)
-        self.assertEqual(Rows(hunt).old(candidate("6:ls:by-data:128:2048:0,3,1,2")), [])
+        self.assertEqual(Rows(scope).old(candidate("6:ls:by-data:128:2048:0,3,1,2")), [])
         # With another one missing at level 5 parity tells nothing; where most rows are unsound, or none is, the image is not old.
-        self.assertEqual(Rows(hunt_of(self.unsound())).old(candidate("6:ls:by-data:128:2048:0,-,1,2")), [])
-        self.assertEqual(Rows(hunt_of(self.unsound(*range(500)))).old(candidate("6:ls:by-data:128:2048:0,-,1,2")), [])
+        self.assertEqual(Rows(scope_of(self.unsound())).old(candidate("6:ls:by-data:128:2048:0,-,1,2")), [])
+        self.assertEqual(Rows(scope_of(self.unsound(*range(500)))).old(candidate("6:ls:by-data:128:2048:0,-,1,2")), [])
 
     def test_image_that_was_being_rebuilt(self) -> None:
         """Rows are unsound up to where the other images end to hold something, within a chunk."""
         for last, end in ((2048 + 828, True), (2048 + 829, False)):
-            hunt = hunt_of(self.unsound(600, 601, 700))
+            scope = scope_of(self.unsound(600, 601, 700))
             images = tuple(Image(f"i{k}", k, 8000, last=7000 if k == 3 else last) for k in range(4))
-            setattr(hunt, "evidence", types.SimpleNamespace(images=images, filled=1000, window=8000, end=8000))
-            found = Rows(hunt).old(candidate("6:ls:by-data:128:2048:0,-,1,2"))
+            setattr(scope, "evidence", types.SimpleNamespace(images=images, filled=1000, window=8000, end=8000))
+            found = Rows(scope).old(candidate("6:ls:by-data:128:2048:0,-,1,2"))
             self.assertEqual([it.text("abcd").endswith("of 1000 rows; perhaps it was being rebuilt, up to there") for it in found], [end])
         self.assertNotIn("rebuilt", rows.Old(3, 1, Checked(3, 1000), Bounds(0, 900), True).text("abcd"))
 
@@ -465,10 +465,10 @@ class OfRows(unittest.TestCase):
         for word, said in (("6:ls:by-data:128:2048:0,-,1,2", "d is old or damaged from"),
                            ("6:ls:by-data:128:2048:0,-,1,-", "or another image, is old"),
                            ("5:ls:none:128:2048:0,-,1,2", "d, or another image, is old or damaged from")):
-            hunt = hunt_of(self.unsound(600, 601, 700))
+            scope = scope_of(self.unsound(600, 601, 700))
             images = tuple(Image(f"i{k}", k, 8000, last=7000) for k in range(4))
-            setattr(hunt, "evidence", types.SimpleNamespace(images=images, filled=1000, window=8000, end=8000))
-            found = Rows(hunt).old(candidate(word))
+            setattr(scope, "evidence", types.SimpleNamespace(images=images, filled=1000, window=8000, end=8000))
+            found = Rows(scope).old(candidate(word))
             self.assertTrue(found)
             self.assertTrue(all(said in it.text("abcd") for it in found), [it.text("abcd") for it in found])
 
@@ -484,20 +484,20 @@ class OfRows(unittest.TestCase):
             return "reraid check", told
         plan = plan_of(("xfs", marks))
         near = Near("5:ls:none:128:2048:0,1,2,3", plan, Checked(0, 9, (Held("xfs", 0, 4, 4),)))
-        turned = Rows(hunt_of(answer(1280 * 4))).turned(near)
+        turned = Rows(scope_of(answer(1280 * 4))).turned(near)
         assert turned
         self.assertEqual(turned.row, 1280 * 4)
         self.assertEqual(turned.text(), "4 landmarks match before row 5120, and 4 from there on do not. A reshape may have stopped there, or "
                          "landmarks of an older array or file system follow")
         few = Near(near.word, plan, Checked(0, 9, (Held("xfs", 0, 6, 2),)))
-        self.assertIsNone(Rows(hunt_of(answer(1280 * 6))).turned(few))
+        self.assertIsNone(Rows(scope_of(answer(1280 * 6))).turned(few))
 
         def mixed(_: list[str], text: str) -> Answer:
             # Every other mark fits.
             before = [k for k in range(8) if 2048 + 1280 * k < int(text.split("end ")[1].split()[0])]
             fits = sum(k % 2 == 0 for k in before)
             return put(f"unsound 0 of 1\ngroup 0 xfs origin 0 fits {fits} misfits {len(before) - fits}\nfail\n")
-        self.assertIsNone(Rows(hunt_of(("reraid check", mixed))).turned(near))
+        self.assertIsNone(Rows(scope_of(("reraid check", mixed))).turned(near))
 
 
 class Tested(InFolder):
@@ -519,37 +519,37 @@ class Tested(InFolder):
         self.assertEqual(in_classes(Program(Standin(), ("a",), 5, 1), [five], 99), [five])
 
     def test_asked_once(self) -> None:
-        hunt = hunt_of(("reraid check", put("unsound 5 of 9\ngroup 0 xfs origin 0 fits 3 misfits 1\nfail\n")))
-        it = candidate(hunt=hunt)
+        scope = scope_of(("reraid check", put("unsound 5 of 9\ngroup 0 xfs origin 0 fits 3 misfits 1\nfail\n")))
+        it = candidate(scope=scope)
         tests = self.over()
         tests.ask(it, False)
         self.assertEqual((it.unsound, len(it.groups)), (None, 1))
         tests.ask(it, False)
         tests.ask(it)
         tests.ask(it)
-        self.assertEqual((it.unsound, cast(OfPlan, hunt).standin.count("reraid check")), (5, 2))
-        self.assertIn("window 1\n", cast(OfPlan, hunt).standin.asked[0][1])
-        tests.ask(candidate("near2:8:0:0,1", hunt=hunt_of()))
+        self.assertEqual((it.unsound, cast(OfPlan, scope).standin.count("reraid check")), (5, 2))
+        self.assertIn("window 1\n", cast(OfPlan, scope).standin.asked[0][1])
+        tests.ask(candidate("near2:8:0:0,1", scope=scope_of()))
 
     def test_begins(self) -> None:
         check = ("reraid check", put("unsound 0 of 1\ngroup 0 xfs origin 8 fits 3 misfits 0\npass\n"))
         for data, told in ((b"XFSB", True), (bytes(8 * SECTOR) + b"XFSB", True), (bytes(9 * SECTOR) + b"XFSB", False)):
-            self.assertEqual(self.over(("reraid write", Answer(0, data))).begins(candidate(hunt=hunt_of(check))), told)
+            self.assertEqual(self.over(("reraid write", Answer(0, data))).begins(candidate(scope=scope_of(check))), told)
 
     def test_begins_with_copies_that_are_far(self) -> None:
         """What far copies begin with is read by the end with which they were asked for; of the command's output so much is taken."""
         tests = self.over(("reraid mirrorwrite", Answer(0, b"XFSB")))
-        it = candidate("far2:8:0:0,1", hunt=hunt_of())
-        it.trial = dataclasses.replace(it.trial, copied=Copied((NEAR_2,), 2, end=77))
+        it = candidate("far2:8:0:0,1", scope=scope_of())
+        it.step = dataclasses.replace(it.step, copied=Copied((NEAR_2,), 2, end=77))
         self.assertTrue(tests.begins(it))
         self.assertIn("end=77", cast(Standin, tests.commands).asked[0][0])
 
     def test_read(self) -> None:
         check = ("reraid check", put("unsound 0 of 1\ngroup 0 xfs origin 8 fits 3 misfits 0\npass\n"))
-        it = self.over(("reraid write", Answer(10))).read(candidate(hunt=hunt_of(check)))
+        it = self.over(("reraid write", Answer(10))).read(candidate(scope=scope_of(check)))
         self.assertEqual((it.found.text(), it.score), ("nothing recognized; no known files; its volume could not be written", Score.NOTHING))
         with mock.patch("os.truncate", side_effect=OSError(28, "No space left on device")):
-            it = self.over(("reraid write", Answer(0))).read(candidate(hunt=hunt_of(check)))
+            it = self.over(("reraid write", Answer(0))).read(candidate(scope=scope_of(check)))
         self.assertEqual(it.found.notes, ["its volume could not be read: No space left on device"])
 
     def test_how_much_is_lost(self) -> None:
@@ -567,12 +567,12 @@ class Tested(InFolder):
     def test_doubtful_ones_are_put_off(self) -> None:
         def told(answered: list[str], _: str) -> Answer:
             return put("unsound 9 of 9\ngroup 0 xfs origin 0 fits 1 misfits 2\nfail\n" if "1,0,2" in answered[2] else "unsound 9 of 9\nfail\n")
-        hunt = hunt_of(("reraid check", told))
-        some = [candidate(text, hunt=hunt) for text in ("6:ls:by-data:8:0:0,1,2,3", "6:ls:by-data:8:0:1,0,2,3")]
+        scope = scope_of(("reraid check", told))
+        some = [candidate(text, scope=scope) for text in ("6:ls:by-data:8:0:0,1,2,3", "6:ls:by-data:8:0:1,0,2,3")]
         tests = self.over()
         self.assertEqual(tests.without_doubtful(some), some)
         for it in some:
-            it.trial = dataclasses.replace(it.trial, request=BASE.having(misfits=8))
+            it.step = dataclasses.replace(it.step, request=BASE.having(misfits=8))
         self.assertEqual((tests.without_doubtful(some), tests.put_off), (some[:1], some[1:]))
         self.assertIn("1 of 2 layouts deferred", self.report.text)
         # Where all are put off nothing is tested.
@@ -587,7 +587,7 @@ class Tested(InFolder):
         self.assertEqual((tests.test(some), len(tests.put_off)), ([], 1025))
 
     def test_those_that_begin_with_something_first(self) -> None:
-        some = [candidate(f"5:ls:none:8:{k}:0,1,2", hunt=hunt_of(("reraid check", put("unsound 0 of 9\npass\n")))) for k in range(9)]
+        some = [candidate(f"5:ls:none:8:{k}:0,1,2", scope=scope_of(("reraid check", put("unsound 0 of 9\npass\n")))) for k in range(9)]
 
         def data(answered: list[str], _: str) -> Answer:
             return Answer(0, b"XFSB" if ":5:" in answered[2] else b"none")
@@ -599,7 +599,7 @@ class Tested(InFolder):
         self.assertEqual([len(part) for part in tests.parts(some)], [1, 8])
 
     def test_files_of_many(self) -> None:
-        """Of many sets those alone are looked through for files to which these may give a sign; the others at the end, the first of them."""
+        """Of many sets those alone are looked through for files to which these may give a rating; the others at the end, the first of them."""
         for clean, looked, empty in ((3, [(3, True)], False), (99, [], False), (99, [], True)):
             some = [candidate(f"5:ls:none:8:{k}:0,1,2") for k in range(9)]
             tests, asked = self.over(), list[tuple[int, bool]]()
@@ -613,7 +613,7 @@ class Tested(InFolder):
                 self.assertEqual(tests.looked_at(some), some)
                 self.assertEqual((sorted(asked[:9]), sorted(asked[9:])), ([(k, False) for k in range(9)], looked))
                 asked.clear()
-                with mock.patch("reraid_try.checks.tests.MOST_COUNTED", 7):
+                with mock.patch("reraid_try.checks.tests.MAX_COUNTED", 7):
                     tests.count_late(some)
                 self.assertEqual(sorted(asked), [(k, True) for k in range(8) if k != clean][:7])
                 asked.clear()
@@ -625,7 +625,7 @@ class Tested(InFolder):
 
     def test_encrypted_ones_are_enough(self) -> None:
         """Where some of many begin with the head of an encrypted volume the others, which begin with nothing known, are not looked at."""
-        some = [candidate(f"5:ls:none:8:{k}:0,1,2", hunt=hunt_of(("reraid check", put("unsound 0 of 9\npass\n")))) for k in range(9)]
+        some = [candidate(f"5:ls:none:8:{k}:0,1,2", scope=scope_of(("reraid check", put("unsound 0 of 9\npass\n")))) for k in range(9)]
         tests = self.over(("reraid write", lambda words, _: Answer(0, b"LUKS\xba\xbe" if ":5:" in words[2] else b"none")),
                           ("reraid classes", put("".join(f"{k} x\n" for k in range(8)) + "classes 8 of 8\n")))
         tests.late = True
@@ -639,7 +639,7 @@ class Tested(InFolder):
     def test_images_that_make_rows_unsound(self) -> None:
         def told(answered: list[str], _: str) -> Answer:
             return put(f"unsound {2 if '-,1,2' in answered[2] else 5 if '0,-,2' in answered[2] else 9} of 9\nfail\n")
-        it = candidate("6:ls:by-data:8:0:0,1,2,3", hunt=hunt_of(("reraid check", told)), unsound=9)
+        it = candidate("6:ls:by-data:8:0:0,1,2,3", scope=scope_of(("reraid check", told)), unsound=9)
         self.assertEqual(self.over().left_out(it), [frozenset({0, 1})])
         self.assertIn("9 rows inconsistent, 7 because of image 0, 4 because of image 1", self.report.text)
         self.assertEqual(self.over().left_out(candidate(unsound=9)), [frozenset({image}) for image in range(3)])
@@ -648,7 +648,7 @@ class Tested(InFolder):
         """What has no unsound row without an image is kept, also where no more files are whole then."""
         def told(answered: list[str], _: str) -> Answer:
             return put(f"unsound {0 if '0,1,-,3' in answered[2] else 9} of 9\nfail\n")
-        it = candidate("6:ls:by-data:8:0:0,1,2,3", whole(), hunt=hunt_of(("reraid check", told)), unsound=9)
+        it = candidate("6:ls:by-data:8:0:0,1,2,3", whole(), scope=scope_of(("reraid check", told)), unsound=9)
         tests = self.over()
 
         def read(one: Candidate, _files: bool = True) -> Candidate:
@@ -768,7 +768,7 @@ class Printed(unittest.TestCase):
         self.assertIn("  to undo that:\n    umount /mnt\n    umount candidate0", text)
         self.assertEqual(self.shown().lines[-1], "no candidates")
 
-    def test_why_there_is_no_sign(self) -> None:
+    def test_why_there_is_no_rating(self) -> None:
         little = whole()
         little.length = 100000
         self.assertIn("no rating: what was found covers 1% of the volume", self.shown(candidate(verdict=little)).text)

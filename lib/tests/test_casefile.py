@@ -207,7 +207,7 @@ class Pages(unittest.TestCase):
         self.assertNotIn("examiner", self.made(("run", "", run | {"case": "", "examiner": ""})))
 
     def test_files_that_touch_what_is_lost(self) -> None:
-        files = [f"/{number}" for number in range(page.MOST_FILES + 3)]
+        files = [f"/{number}" for number in range(page.MAX_FILES + 3)]
         said = self.made(("lost files", "candidate 0: ext4: 9 sectors of it are lost", {"class": 0, "files": files}))
         self.assertIn("Files that touch lost sectors candidate 0: ext4: 9 sectors of it are lost /0 /1 ", said)
         self.assertTrue("/499 and 3 more" in said and "/500" not in said)
@@ -218,11 +218,11 @@ class Pages(unittest.TestCase):
     def test_a_candidate(self) -> None:
         candidate = {"class": 0, "set": "5:ls:none:128:2048:0,1,2", "alike": ["5:rs:none:128:2048:0,2,1"], "loosened": ["half the test range"],
                      "score": 3, "unsound": 7, "fits": ["ext 4"], "found": ["ext4: e2fsck reports no errors"], "note": "", "trial": 2}
-        trial = {"number": 2, "shape": "RAID 5 of 3 disks", "loosened": [], "listed": 1, "total": 9, "note": ""}
+        step = {"number": 2, "shape": "RAID 5 of 3 disks", "loosened": [], "listed": 1, "total": 9, "note": ""}
         words = {"class": 0, "set": candidate["set"], "words": "RAID 5 of 3 disks", "rows": "", "commands": ["reraid-mount S d 0.img"]}
         regions = [{"first": 0, "rows": 10, "tested": 10, "unsound": 3}, {"first": 10, "rows": 5, "tested": 5, "unsound": 0}]
         lines = "candidate 0: RAID 5 of 3 disks\n  disk order: a b c\n  to mount it read-only, as root:\n    typed"
-        said = self.made(("image", "", image(0)), ("trial", "", trial), ("candidate", "", candidate), ("words", lines, words),
+        said = self.made(("image", "", image(0)), ("trial", "", step), ("candidate", "", candidate), ("words", lines, words),
                          ("parity", "", {"class": 0, "regions": regions}))
         self.assertNotIn("deferred", said)
         for wanted in ("++ candidate 0: RAID 5 of 3 disks disk order: a b c To mount it read-only, as root:", "reraid-mount S d 0.img",
@@ -231,12 +231,12 @@ class Pages(unittest.TestCase):
             self.assertIn(wanted, said)
 
     def test_outcomes(self) -> None:
-        """A trial whose sets were put off says so, and only that one; of many candidates those that follow one another are one. Of how many sets
+        """A step whose sets were put off says so, and only that one; of many candidates those that follow one another are one. Of how many sets
         they are stands where others were counted."""
-        trials = [("trial", "", {"number": number, "shape": "levels 5", "loosened": [], "listed": 9, "total": 9, "note": ""}) for number in (1, 2, 3)]
+        steps = [("trial", "", {"number": number, "shape": "levels 5", "loosened": [], "listed": 9, "total": 9, "note": ""}) for number in (1, 2, 3)]
         found = [("candidate", "", {"class": number, "set": "s", "loosened": [], "score": 1, "trial": 3}) for number in (0, 1, 2, 4, 6, 7)]
-        trials[2][2]["total"] = None
-        said = self.made(trials[0], ("put off", "", {"sets": 9}), *trials[1:], *found)
+        steps[2][2]["total"] = None
+        said = self.made(steps[0], ("put off", "", {"sets": 9}), *steps[1:], *found)
         self.assertEqual((said.count("9 of 9"), said.count("None")), (2, 0))
         self.assertEqual(said.count("deferred; no new candidate"), 1)
         self.assertIn("candidates: 0 to 2, 4, 6, 7", said)

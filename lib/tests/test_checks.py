@@ -167,9 +167,9 @@ class Verdicts(unittest.TestCase):
         ]
         for number, (verdict, score) in enumerate(rows):
             self.assertEqual(verdict.score, score, number)
-        self.assertEqual([score.sign for score in Score], ["", "", "+", "++"])
+        self.assertEqual([score.rating for score in Score], ["", "", "+", "++"])
 
-    def test_no_sign_where_little_of_the_volume_is_covered(self) -> None:
+    def test_no_rating_where_little_of_the_volume_is_covered(self) -> None:
         little = self.verdict(self.found(length=249), files=Wholes(2, 2, 31))
         self.assertEqual((little.score, little.doubts), (Score.KNOWN, ["what was found covers 24% of the volume"]))
         self.assertEqual(self.verdict(self.found(length=250)).doubts, [])
@@ -186,13 +186,13 @@ class Verdicts(unittest.TestCase):
         self.assertEqual([told(joined=2), told(clean=False), told(clean=None), told(length=500), told(first=3)], [False] * 5)
         self.assertFalse(self.verdict(self.found(), files=Wholes(2, 2, 30, joined=3)).in_order)
 
-    def test_no_sign_where_only_files_within_a_chunk_are_whole(self) -> None:
+    def test_no_rating_where_only_files_within_a_chunk_are_whole(self) -> None:
         within = self.verdict(self.found(), files=Wholes(64, 61, 10))
         self.assertEqual((within.score, within.doubts), (Score.KNOWN, ["only files within one chunk are intact, as in any order of the chunks"]))
         for files in (Wholes(64, 61, 11), Wholes(64, 64, 10), Wholes(4, 0, 0)):
             self.assertEqual(self.verdict(self.found(), files=files).score, Score.CHECKED)
 
-    def test_no_sign_where_many_files_are_broken(self) -> None:
+    def test_no_rating_where_many_files_are_broken(self) -> None:
         """Metadata in the first rows may be right in a wrong volume, where the parity of the rows with files lies elsewhere."""
         broken = self.verdict(self.found(), files=Wholes(8, 0))
         self.assertEqual((broken.score, broken.doubts), (Score.KNOWN, ["none of 8 files is intact"]))
@@ -200,7 +200,7 @@ class Verdicts(unittest.TestCase):
             self.assertEqual(self.verdict(self.found(kind), files=files).score, Score.CHECKED)
         self.assertEqual(self.verdict(self.found("btrfs"), files=Wholes(9, 0)).score, Score.WHOLE)
 
-    def test_no_sign_where_a_checker_reads_little_and_files_are_broken(self) -> None:
+    def test_no_rating_where_a_checker_reads_little_and_files_are_broken(self) -> None:
         """As `ntfsfix` is content with wrong orders of the chunks, files have to tell the right one where some are broken."""
         def told(kind: str, joined: int | None, whole: int = 61, longest: int = 30) -> Score:
             long = None if joined is None else Wholes(16, 5, 11, joined=joined)
@@ -561,7 +561,7 @@ class Looks(InFolder):
         self.assertEqual((lacking(100, 75), lacking(100, 74), lacking(100, 200)), (25, 0, 0))
 
     def test_file_system_that_is_longer_than_its_volume(self) -> None:
-        """There is no sign for one that says of itself that it is longer than what is there, of whatever kind, unless its checker is content with
+        """There is no rating for one that says of itself that it is longer than what is there, of whatever kind, unless its checker is content with
         zeros at its end."""
         for kind in ("vfat", "exfat", "ntfs", "btrfs", "ext4", "xfs"):
             for told, lacks, clean, score in ((1024, 0, None, Score.WHOLE), (1536, 0, None, Score.KNOWN), (1536, 512, None, Score.KNOWN),

@@ -177,7 +177,7 @@ class Opens(unittest.TestCase):
             self.opener.open(Container("qcow2", ("a.qcow2",)))
         self.tool("ewfmount", "exit 0")
         with self.assertRaisesRegex(OutsideError, "ewfmount does not open it: it prints no reason"):
-            with mock.patch.object(opening, "MOST_SECONDS", 0.3):
+            with mock.patch.object(opening, "MAX_SECONDS", 0.3):
                 self.opener.open(Container(EWF, ("c.E01",)))
 
     def test_what_is_not_whole(self) -> None:

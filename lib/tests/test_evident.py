@@ -12,7 +12,7 @@ from reraid_try.calls.commands import Answer, Words
 from reraid_try.calls.program import Copied, Listing
 from reraid_try.checks.verdicts import Score
 from reraid_try.evidence import ties
-from reraid_try.evidence.families import Family
+from reraid_try.evidence.image_groups import ImageGroup
 from reraid_try.evidence.heads import Head
 from reraid_try.evidence.images import Image
 from reraid_try.evidence.maps import Map
@@ -25,13 +25,13 @@ from reraid_try.evidence.tables import Partition, Table
 from reraid_try.evidence.ties import Ties
 from reraid_try.evidence.unlike import Unlike
 from reraid_try.options import Options
-from reraid_try.policy import cures
+from reraid_try.policy import relaxations
 from reraid_try.policy import evident as evident_module
 from reraid_try.policy.evident import Evident, Later, Part
-from reraid_try.policy.plain import Aim, Span, Unsound
+from reraid_try.policy.plain import Target, Span, Unsound
 from reraid_try.policy.shapes import Shape
-from reraid_try.policy.steps import Step, is_of_bad_rows, with_bad_rows
-from reraid_try.policy.trials import Trial
+from reraid_try.policy.stages import Stage, is_of_bad_rows, with_bad_rows
+from reraid_try.policy.steps import Step
 
 from . import rows
 from .standin import Told, plan_of
@@ -57,67 +57,67 @@ def evident(images: Sequence[Image], runner: Standin, options: Options, closed: 
 
 
 class Without(Evident):
-    """Evidence that finds no text of LVM2, and of which stated aims say enough."""
+    """Evidence that finds no text of LVM2, and of which stated targets say enough."""
 
     good: frozenset[int] = frozenset()
-    tried: list[Aim]
-    order: Sequence[Aim] = ()
+    tried: list[Target]
+    order: Sequence[Target] = ()
 
-    def aims(self, part: Part) -> list[Aim]:
+    def targets(self, part: Part) -> list[Target]:
         """Those that are stated."""
         return list(self.order)
 
-    def seek(self, aim: Aim, later: list[Later]) -> bool:
-        """The trial of an aim says enough where that is stated."""
-        self.tried.append(aim)
-        later += [Later(aim, cast(Any, None))] * bool(aim.moved)
-        return self.order.index(aim) in self.good
+    def seek(self, target: Target, later: list[Later]) -> bool:
+        """The step of a target says enough where that is stated."""
+        self.tried.append(target)
+        later += [Later(target, cast(Any, None))] * bool(target.moved)
+        return self.order.index(target) in self.good
 
-    def loosen(self, it: Later) -> bool:
-        """What is loosened of an aim says enough where that is stated, behind all aims."""
-        self.tried.append(it.aim)
-        return len(self.order) + self.order.index(it.aim) in self.good
+    def relax(self, it: Later) -> bool:
+        """What is relaxed of a target says enough where that is stated, behind all targets."""
+        self.tried.append(it.target)
+        return len(self.order) + self.order.index(it.target) in self.good
 
 
 class Order(unittest.TestCase):
-    """Which aims are tried."""
+    """Which targets are tried."""
 
-    def tried(self, good: frozenset[int], *aims: Aim) -> tuple[bool, list[int]]:
-        """Whether some aim says enough, and which were tried."""
+    def tried(self, good: frozenset[int], *targets: Target) -> tuple[bool, list[int]]:
+        """Whether some target says enough, and which were tried."""
         it = Without(cast(Any, types.SimpleNamespace(options=Options(("a",)))))
-        it.good, it.order, it.tried = good, aims, []
+        it.good, it.order, it.tried = good, targets, []
         done = it.of_part(Part((0, 1, 2), Span(0, 9)))
-        return done, [aims.index(aim) for aim in it.tried]
+        return done, [targets.index(target) for target in it.tried]
 
     def test_solved(self) -> None:
         """What is known enough is tried no more, and other images are."""
-        first, again, other = (Aim(images, Span(0, 9), why) for images, why in (((0, 1, 2), "a"), ((1, 2), "b"), ((3, 4), "c")))
+        first, again, other = (Target(images, Span(0, 9), why) for images, why in (((0, 1, 2), "a"), ((1, 2), "b"), ((3, 4), "c")))
         self.assertEqual(self.tried(frozenset({0}), first, again, other), (True, [0, 2]))
         self.assertEqual(self.tried(frozenset(), first, again, other), (False, [0, 1, 2]))
         self.assertEqual(self.tried(frozenset({1}), first, again, other), (True, [0, 1, 2]))
 
     def test_where_data_begin(self) -> None:
-        """Of aims that differ in that alone all are tried before anything is loosened, and then the next ones."""
-        one, two, other = (Aim((0, 1, 2), Span(0, 9), "why", moved=moved) for moved in ((0, 8), (8, 16), ()))
+        """Of targets that differ in that alone all are tried before anything is relaxed, and then the next ones."""
+        one, two, other = (Target((0, 1, 2), Span(0, 9), "why", moved=moved) for moved in ((0, 8), (8, 16), ()))
         self.assertEqual(self.tried(frozenset(), one, two, other), (False, [0, 1, 0, 1, 2]))
         self.assertEqual(self.tried(frozenset({1}), one, two, other), (True, [0, 1]))
         self.assertEqual(self.tried(frozenset({3}), one, two, other), (True, [0, 1, 0]))
 
 
 class Zeros(Evident):
-    """Evidence that keeps in which order an aim is tried."""
+    """Evidence that keeps in which order a target is tried."""
 
     order: list[str]
     ends = ""
 
-    def by_places(self, hunt: Any, aim: Aim) -> bool:
+    def by_places(self, scope: Any, target: Target) -> bool:
         """What zeros allow is asked."""
         self.order.append("zeros")
         return self.ends == "zeros"
 
 
 class Attempts(unittest.TestCase):
-    """In which order the shapes of an aim are tried."""
+    """In which order the shapes of a target are tried."""
 
     def order(self, shape: Shape | tuple[Shape, ...], groups: bool, *found: Any, late: bool = False, tied: bool = True, ends: str = "",
               first: int = 0) -> list[str]:
@@ -127,36 +127,36 @@ class Attempts(unittest.TestCase):
         tested: list[Any] = []
         self.times: list[int] = []
 
-        def step(it: Step, _hunt: Any) -> bool:
-            """A listing with so much loosened."""
+        def stage(it: Stage, _scope: Any) -> bool:
+            """A listing with so much relaxed."""
             asked.append(f"list {it.count}" if it.only is None else it.only.__name__)
-            hunt.cut_short |= {"a plan"} if late else set()
-            self.times.append(hunt.program.seconds)
+            scope.cut_short |= {"a plan"} if late else set()
+            self.times.append(scope.program.seconds)
             tested.extend(found if it.count >= first else ())
             return asked[-1] == ends
 
-        def bare(_hunt: Any, _shape: Shape) -> bool:
+        def bare(_scope: Any, _shape: Shape) -> bool:
             """A listing without landmarks."""
             asked.append("bare")
             return False
-        search = types.SimpleNamespace(options=Options(("a",)), take_step=step, attempt_bare=bare, tested=tested, is_hopeless=lambda _: False)
+        search = types.SimpleNamespace(options=Options(("a",)), take_stage=stage, attempt_bare=bare, tested=tested, is_hopeless=lambda _: False)
         it = Zeros(cast(Any, search))
         it.order, it.ends = asked, ends
-        hunt = types.SimpleNamespace(plan=types.SimpleNamespace(groups=["a group"] if groups else []), program=types.SimpleNamespace(seconds=0),
-                                     cut_short=set(), ask_again=lambda: asked.append("again"))
+        scope = types.SimpleNamespace(plan=types.SimpleNamespace(groups=["a group"] if groups else []), program=types.SimpleNamespace(seconds=0),
+                                      cut_short=set(), ask_again=lambda: asked.append("again"))
         shapes = (shape,) if isinstance(shape, Shape) else shape
-        aim = Aim((0, 1, 2), Span(0, 9), "why", shapes, tied=tied)
-        if not it.plainly(cast(Any, hunt), aim, 0):
-            it.loosened(cast(Any, hunt), aim, 0)
+        target = Target((0, 1, 2), Span(0, 9), "why", shapes, tied=tied)
+        if not it.plainly(cast(Any, scope), target, 0):
+            it.relaxed(cast(Any, scope), target, 0)
         return asked
 
     def test_marks_and_parity(self) -> None:
-        """With marks a plain listing comes before what zeros allow. It has the whole time of a trial where Q tells something; else a sixth, and the
+        """With marks a plain listing comes before what zeros allow. It has the whole time of a step where Q tells something; else a sixth, and the
         whole only where that was up and zeros did not help."""
         self.assertEqual((self.order(Shape("6", 6, 1), True), self.times), (["list 0", "zeros", "list 1", "list 2"], [60, 10, 10]))
         self.assertEqual((self.order(Shape("5", 6), True), self.times), (["list 0", "zeros", "list 1", "list 2"], [10, 10, 10]))
         content: Any = types.SimpleNamespace(score=Score.CHECKED, found=types.SimpleNamespace(encrypted=[]),
-                                             trial=types.SimpleNamespace(shape=types.SimpleNamespace(parity=True)))
+                                             step=types.SimpleNamespace(shape=types.SimpleNamespace(parity=True)))
         for late in (False, True):
             self.assertEqual(self.order(Shape("5", 6), True, content, late=late), ["list 0", "list 1"])
         self.assertEqual(self.order(Shape("5", 6), True, late=True, tied=False), ["list 0", "zeros", "list 1", "list 2"])
@@ -164,17 +164,17 @@ class Attempts(unittest.TestCase):
                          (["list 0", "zeros", "again", "list 0", "list 1", "list 2"], [10, 60, 10, 10]))
 
     def test_what_is_enough(self) -> None:
-        """A listing, or what zeros allow, wherever it is asked; what is content once something is loosened."""
+        """A listing, or what zeros allow, wherever it is asked; what is content once something is relaxed."""
         self.assertEqual(self.order(Shape("5", 6), True, ends="list 0"), ["list 0"])
         self.assertEqual(self.order(Shape("5", 6), True, ends="zeros"), ["list 0", "zeros"])
         self.assertEqual(self.order(Shape("5", 6), False, ends="zeros"), ["zeros"])
         self.assertEqual(self.order(Shape("5", 6), True, ends="list 1"), ["list 0", "zeros", "list 1"])
         content: Any = types.SimpleNamespace(score=Score.CHECKED, found=types.SimpleNamespace(encrypted=[]),
-                                             trial=types.SimpleNamespace(shape=types.SimpleNamespace(parity=True)))
+                                             step=types.SimpleNamespace(shape=types.SimpleNamespace(parity=True)))
         self.assertEqual(self.order(Shape("5", 6), True, content, first=1), ["list 0", "zeros", "list 1"])
 
     def test_time_of_what_is_not_tied(self) -> None:
-        """It is no more than a sixth of that of a trial, also where Q tells something."""
+        """It is no more than a sixth of that of a step, also where Q tells something."""
         self.order(Shape("6", 6, 1), True, tied=False)
         self.assertEqual(self.times, [10, 10, 10])
 
@@ -182,7 +182,7 @@ class Attempts(unittest.TestCase):
         """A volume that is encrypted ends it where parity speaks for it, since nothing more is to be seen."""
         def candidate(parity: bool, encrypted: list[str]) -> Any:
             found = types.SimpleNamespace(encrypted=encrypted)
-            return types.SimpleNamespace(found=found, trial=types.SimpleNamespace(shape=types.SimpleNamespace(parity=parity)), score=Score.KNOWN)
+            return types.SimpleNamespace(found=found, step=types.SimpleNamespace(shape=types.SimpleNamespace(parity=parity)), score=Score.KNOWN)
         self.assertEqual(self.order(Shape("6", 6), False, candidate(True, ["LUKS"])), ["list 0"])
         self.assertEqual(self.order(Shape("5", 6), False, candidate(True, ["LUKS"])), ["zeros", "list 0"])
         for other in (candidate(False, ["LUKS"]), candidate(True, [])):
@@ -191,34 +191,34 @@ class Attempts(unittest.TestCase):
     def test_before_another_disk_is_lost(self) -> None:
         """Where parity tells nothing what NTFS needs, and parity that stays, come before the next shape, unless a set is enough or content."""
         content: Any = types.SimpleNamespace(score=Score.CHECKED, found=types.SimpleNamespace(encrypted=[]),
-                                             trial=types.SimpleNamespace(shape=types.SimpleNamespace(parity=False)))
+                                             step=types.SimpleNamespace(shape=types.SimpleNamespace(parity=False)))
         shapes, then = (Shape("5", 4, 1), Shape("6", 5, 2)), ["is_of_kind", "stays"]
         self.assertEqual(self.order(shapes, True, tied=False)[:5], ["list 0", *then, "list 0", "zeros"])
         for place, what in enumerate(then):
             self.assertEqual(self.order(shapes, True, tied=False, ends=what), ["list 0", *then[:place + 1]])
         self.assertEqual(self.order(shapes, True, content, tied=False), ["list 0", "list 0", "list 1"])
         for shape, wanted in zip(shapes, (["list 0", "stays", "list 0", "list 1"], ["list 0", "list 0", "stays", "list 1"])):
-            content.trial.shape = shape
+            content.step.shape = shape
             self.assertEqual(self.order(shapes, True, content, tied=False), wanted)
         self.assertEqual(self.order((Shape("5", 3), *shapes), True)[:4], ["list 0", "list 0", *then])
 
-    def test_what_is_loosened_of_what_is_content(self) -> None:
-        """The shapes of which a candidate has a sign already, and no others; all where none has."""
+    def test_what_is_relaxed_of_what_is_content(self) -> None:
+        """The shapes of which a candidate has a rating already, and no others; all where none has."""
         asked: list[tuple[Shape, ...]] = []
 
-        def step(it: Step, _hunt: Any) -> bool:
+        def stage(it: Stage, _scope: Any) -> bool:
             asked.append(it.shapes)
             return False
         shapes = Shape("0", 3), Shape("5", 4, 1), Shape("6", 5, 2)
         cases: list[tuple[list[Shape], list[tuple[Shape, ...]]]] = [
             ([shapes[0]], [(shapes[0],)]), ([shapes[2], shapes[1]], [shapes[1:]]), ([], [shapes, shapes]), ([Shape("5", 3)], [shapes])]
-        for signed, wanted in cases:
+        for rated, wanted in cases:
             asked.clear()
             found = types.SimpleNamespace(encrypted=[])
-            tested = [types.SimpleNamespace(score=Score.CHECKED, found=found, trial=types.SimpleNamespace(shape=shape)) for shape in signed]
-            search = types.SimpleNamespace(options=Options(("a",)), take_step=step, tested=tested, is_hopeless=lambda _: False)
+            tested = [types.SimpleNamespace(score=Score.CHECKED, found=found, step=types.SimpleNamespace(shape=shape)) for shape in rated]
+            search = types.SimpleNamespace(options=Options(("a",)), take_stage=stage, tested=tested, is_hopeless=lambda _: False)
             it = Evident(cast(Any, search))
-            it.loosened(cast(Any, types.SimpleNamespace(program=types.SimpleNamespace())), Aim((0, 1, 2), Span(0, 9), "why", shapes), 0)
+            it.relaxed(cast(Any, types.SimpleNamespace(program=types.SimpleNamespace())), Target((0, 1, 2), Span(0, 9), "why", shapes), 0)
             self.assertEqual(asked, wanted)
 
     def test_no_parity_or_no_marks(self) -> None:
@@ -234,28 +234,28 @@ class ByPlaces(unittest.TestCase):
 
     def test_records_of_number_0(self) -> None:
         """A set that zeros allow is checked without the file records that a fresh NTFS numbers 0, so that its other marks may speak for it."""
-        taken: list[Trial] = []
+        taken: list[Step] = []
 
-        def take(_hunt: Any, trial: Trial, sets: Any, _words: Any) -> bool:
+        def take(_scope: Any, step: Step, sets: Any, _words: Any) -> bool:
             """The sets are tested."""
             self.assertEqual([it.text for it in sets], ["5:ls:none:16:64:0,1,2"])
             self.assertEqual(said, ["1 layout passes (those that the fewest rows of zeros contradict; no others were tested)"])
-            taken.append(trial)
+            taken.append(step)
             return True
         placement = types.SimpleNamespace(words=lambda *_: ["5:ls:none:16:64:0,1,2"])
-        hunt = types.SimpleNamespace(places_at=lambda _: types.SimpleNamespace(best=lambda *_: [placement]), plan=plan_of(NTFS),
-                                     evidence=types.SimpleNamespace(tried=(0, 64), end=900),
-                                     asking=types.SimpleNamespace(request=lambda _: BASE))
+        scope = types.SimpleNamespace(places_at=lambda _: types.SimpleNamespace(best=lambda *_: [placement]), plan=plan_of(NTFS),
+                                      evidence=types.SimpleNamespace(tried=(0, 64), end=900),
+                                      asking=types.SimpleNamespace(request=lambda _: BASE))
         said: list[str] = []
 
-        def say_trial(_hunt: Any, trial: Trial, listing: Listing) -> Trial:
-            """The trial is said: it does not read as if all sets had been listed."""
+        def say_step(_scope: Any, step: Step, listing: Listing) -> Step:
+            """The step is said: it does not read as if all sets had been listed."""
             said.append(listing.line())
             self.assertTrue(listing.whole)
-            return trial
-        search = types.SimpleNamespace(options=Options(("a",)), say_trial=say_trial, take=take, tested=[])
-        aim = Aim((0, 1, 2), Span(0, 900), "why", (Shape("5", 3),), tied=True)
-        self.assertTrue(Evident(cast(Any, search)).by_places(cast(Any, hunt), aim))
+            return step
+        search = types.SimpleNamespace(options=Options(("a",)), say_step=say_step, take=take, tested=[])
+        target = Target((0, 1, 2), Span(0, 900), "why", (Shape("5", 3),), tied=True)
+        self.assertTrue(Evident(cast(Any, search)).by_places(cast(Any, scope), target))
         self.assertEqual([(it.request and it.request.records, it.out) for it in taken], [(True, {0})])
 
     def test_parity_that_stays(self) -> None:
@@ -264,25 +264,25 @@ class ByPlaces(unittest.TestCase):
         tested: list[Any] = []
         found: list[Any] = []
 
-        def take(_hunt: Any, trial: Trial, sets: Any, _words: Any) -> bool:
-            asked.append(([it.text for it in sets], trial.loosened[1:], trial.request.get("delays") if trial.request else ""))
+        def take(_scope: Any, step: Step, sets: Any, _words: Any) -> bool:
+            asked.append(([it.text for it in sets], step.relaxed[1:], step.request.get("delays") if step.request else ""))
             tested.extend(found)
             return whole
         turn = mock.Mock(patterns=(("la", "none"),))
 
         def best(_offsets: Any, chunks: Sequence[int]) -> list[Placement]:
             return [Placement(turn, chunk, 64, (0, 1, 2), 0, 99) for chunk in chunks if chunk in (128, 2048 * 16)]
-        hunt = types.SimpleNamespace(places_at=lambda _: types.SimpleNamespace(best=best), plan=plan_of(NTFS),
-                                     evidence=types.SimpleNamespace(tried=(0, 64), end=900), asking=types.SimpleNamespace(request=lambda _: BASE))
-        search = types.SimpleNamespace(options=Options(("a",)), say_trial=lambda _, trial, __: trial, take=take, tested=tested)
+        scope = types.SimpleNamespace(places_at=lambda _: types.SimpleNamespace(best=best), plan=plan_of(NTFS),
+                                      evidence=types.SimpleNamespace(tried=(0, 64), end=900), asking=types.SimpleNamespace(request=lambda _: BASE))
+        search = types.SimpleNamespace(options=Options(("a",)), say_step=lambda _, step, __: step, take=take, tested=tested)
         first: tuple[list[str], list[str], str] = ["5:la:none:128:64:0,1,2"], [], ""
         staying = ["5:la*16:none:8:64:0,1,2", "5:la*16:none:2048:64:0,1,2"], ["delays 16"], "16"
         for content, whole, wanted in ((False, False, [first, staying]), (True, False, [first]), (False, True, [first])):
             asked.clear()
             tested.clear()
             found = [cast(Any, types.SimpleNamespace(score=Score.CHECKED))] * content
-            aim = Aim((0, 1, 2), Span(0, 900), "why", (Shape("5", 3),), tied=True)
-            self.assertEqual(Evident(cast(Any, search)).by_places(cast(Any, hunt), aim), whole)
+            target = Target((0, 1, 2), Span(0, 900), "why", (Shape("5", 3),), tied=True)
+            self.assertEqual(Evident(cast(Any, search)).by_places(cast(Any, scope), target), whole)
             self.assertEqual(asked, wanted)
 
     def test_nothing_that_zeros_allow(self) -> None:
@@ -292,23 +292,23 @@ class ByPlaces(unittest.TestCase):
         cases: list[tuple[Any, bool, tuple[Shape, ...], list[Shape]]] = [
             (None, True, (five, Shape("6", 3)), [five]), (none, True, (five,), [five]), (none, False, (five,), []), (none, True, (), [])]
         for found, tied, shapes, asked in cases:
-            hunt = types.SimpleNamespace(places_at=(ask := mock.Mock(return_value=found)), evidence=types.SimpleNamespace(tried=(0,), end=900))
+            scope = types.SimpleNamespace(places_at=(ask := mock.Mock(return_value=found)), evidence=types.SimpleNamespace(tried=(0,), end=900))
             it, report = evident([], NoTools({}), Options(("a",)))
-            self.assertFalse(it.by_places(cast(Any, hunt), Aim((0, 1, 2), Span(0, 900), "why", shapes, tied=tied)))
+            self.assertFalse(it.by_places(cast(Any, scope), Target((0, 1, 2), Span(0, 900), "why", shapes, tied=tied)))
             self.assertEqual((report.lines, ask.call_args_list), ([], [mock.call(shape) for shape in asked]))
 
     def test_where_data_may_begin(self) -> None:
         """Not behind a row that is tied; of images that are moved by how much later than the first of them, and not before it."""
-        hunt = types.SimpleNamespace(evidence=types.SimpleNamespace(tried=(0, 64, 2048, 3000), end=2100))
+        scope = types.SimpleNamespace(evidence=types.SimpleNamespace(tried=(0, 64, 2048, 3000), end=2100))
         found, _ = evident([], NoTools({}), Options(("a",)))
 
-        def told(aim: Aim) -> list[int]:
-            return [row for row in found.offsets_of(cast(Any, hunt), aim) if row in (0, 64, 80, 100, 300, 1948, 2048, 3000)]
-        self.assertEqual(told(Aim((0, 1), Span(0, 2100), "why")), [0, 64, 2048])
+        def told(target: Target) -> list[int]:
+            return [row for row in found.offsets_of(cast(Any, scope), target) if row in (0, 64, 80, 100, 300, 1948, 2048, 3000)]
+        self.assertEqual(told(Target((0, 1), Span(0, 2100), "why")), [0, 64, 2048])
         other = types.SimpleNamespace(evidence=types.SimpleNamespace(tried=(100,), end=2100))
-        self.assertEqual(found.offsets_of(cast(Any, other), Aim((0,), Span(100, 2100), "why"))[:2], [100, 116])
-        self.assertEqual(told(Aim((0, 1), Span(0, 2100), "why", begin=64)), [0, 64])
-        self.assertEqual(told(Aim((0, 1), Span(0, 2100), "why", begin=1948, moved=(100, 400))), [0, 1948])
+        self.assertEqual(found.offsets_of(cast(Any, other), Target((0,), Span(100, 2100), "why"))[:2], [100, 116])
+        self.assertEqual(told(Target((0, 1), Span(0, 2100), "why", begin=64)), [0, 64])
+        self.assertEqual(told(Target((0, 1), Span(0, 2100), "why", begin=1948, moved=(100, 400))), [0, 1948])
 
 
 class Apart(unittest.TestCase):
@@ -319,7 +319,7 @@ class Apart(unittest.TestCase):
     copied = True
 
     def unlike(self, known: Sequence[ties.Known], alone: Sequence[int], shown: Sequence[Shift], offsets: Sequence[Unlike] = (),
-               options: Options = Options(("a",)), partition: bool = False) -> list[Aim]:
+               options: Options = Options(("a",)), partition: bool = False) -> list[Target]:
         """What is tried of three images, of which this is known, with distances between them and the offsets that parity allows."""
         it, self.report = evident(self.images, NoTools({}), options)
         told, part = ties.Told(tuple(known), tuple(alone), True), Part((0, 1, 2), Span(0, 900, partition))
@@ -335,78 +335,78 @@ class Apart(unittest.TestCase):
     def test_copies_that_lie_apart(self) -> None:
         """They are tried as RAID 10, but where parity ties the images at offsets of their own, or level 10 is not asked for."""
         shown = [Shift(0, 1, 128, 50), Shift(1, 2, 128, 40)]
-        aim, _ = self.unlike((), (0, 1, 2), shown)
-        self.assertEqual((aim.images, aim.copied, aim.apart, aim.shapes), ((0, 1, 2), True, 128, ()))
-        self.assertEqual(aim.why, "much of the data is on another image too, 128 sectors apart, as in RAID 10 of layout offset")
-        self.assertEqual([aim.apart for aim in self.unlike((), (0, 1, 2), shown, options=Options(("a",), levels=("5",)))], [None])
+        target, _ = self.unlike((), (0, 1, 2), shown)
+        self.assertEqual((target.images, target.copied, target.apart, target.shapes), ((0, 1, 2), True, 128, ()))
+        self.assertEqual(target.why, "much of the data is on another image too, 128 sectors apart, as in RAID 10 of layout offset")
+        self.assertEqual([target.apart for target in self.unlike((), (0, 1, 2), shown, options=Options(("a",), levels=("5",)))], [None])
         self.assertEqual(self.report.lines, [self.named])
-        five = ties.Known(Family((0, 1, 2), 500, 8, 900, "5", 1), None, 40)
+        five = ties.Known(ImageGroup((0, 1, 2), 500, 8, 900, "5", 1), None, 40)
         found = self.unlike((), (0, 1, 2), shown, [Unlike((8, 136, 264), five), Unlike((0, 128, 256), dataclasses.replace(five, begin=48))])
-        self.assertEqual([(aim.moved, aim.apart, aim.begin, aim.shapes) for aim in found],
+        self.assertEqual([(target.moved, target.apart, target.begin, target.shapes) for target in found],
                          [((8, 136, 264), None, 40, (Shape("5", 3),)), ((0, 128, 256), None, 48, (Shape("5", 3),))])
         self.assertEqual(self.report.lines, [self.named, "the data begin at different sectors of the images; parity matches at these: 8, 136, 264"])
-        aim, = self.unlike((), (0, 1, 2), shown, [Unlike((8, 136, 264), five)], partition=True)
-        self.assertEqual((aim.moved, aim.apart, self.report.lines), ((), 128, []))
+        target, = self.unlike((), (0, 1, 2), shown, [Unlike((8, 136, 264), five)], partition=True)
+        self.assertEqual((target.moved, target.apart, self.report.lines), ((), 128, []))
 
     def test_files_that_are_stored_twice(self) -> None:
         """A distance that few sectors have is no reason to look for copies."""
         self.copied = False
-        self.assertEqual([aim.apart for aim in self.unlike((), (0, 1, 2), [Shift(0, 1, 128, 50), Shift(1, 2, 128, 40)])], [None])
+        self.assertEqual([target.apart for target in self.unlike((), (0, 1, 2), [Shift(0, 1, 128, 50), Shift(1, 2, 128, 40)])], [None])
 
     def test_beginnings_before_copies(self) -> None:
         """Distances that agree with one beginning of each image, and might not, are tried as such before RAID 10; those of a chain behind it."""
         shown = [Shift(0, 1, 128, 50), Shift(1, 2, 128, 40), Shift(0, 2, 256, 30)]
         for these, order in ((shown, [None, 128]), (shown[:2], [128, None])):
             found = self.unlike((), (0, 1, 2), these)
-            self.assertEqual([aim.apart for aim in found], order)
-            guess, = (aim for aim in found if not aim.copied)
+            self.assertEqual([target.apart for target in found], order)
+            guess, = (target for target in found if not target.copied)
             self.assertEqual((dict(guess.asked)["offsets"], guess.shapes), ("8,136,264", (Shape("5", 4, 1), Shape("6", 5, 2))))
         # Distances that contradict each other are none of beginnings, and of others nothing is tried.
-        self.assertEqual([aim.apart for aim in self.unlike((), (0, 1, 2), [*shown[:2], Shift(0, 2, -128, 30)])], [128])
+        self.assertEqual([target.apart for target in self.unlike((), (0, 1, 2), [*shown[:2], Shift(0, 2, -128, 30)])], [128])
         self.assertEqual(self.unlike((), (0, 1, 2), []), [])
 
     def test_an_image_that_nothing_ties_where_a_disk_is_lost(self) -> None:
         """Its data may begin elsewhere. Where none is lost it is foreign, and where all are tied nothing is looked for; nor are copies."""
-        lost, full = (ties.Known(Family((0, 1), 500, 8, 900, "6", parity)) for parity in (1, 2))
-        offsets = [Unlike((8, 8, 136), ties.Known(Family((0, 1, 2), 500, 8, 900, "6", 2)))]
-        self.assertEqual([aim.moved for aim in self.unlike((lost,), (2,), (), offsets)], [(8, 8, 136)])
+        lost, full = (ties.Known(ImageGroup((0, 1), 500, 8, 900, "6", parity)) for parity in (1, 2))
+        offsets = [Unlike((8, 8, 136), ties.Known(ImageGroup((0, 1, 2), 500, 8, 900, "6", 2)))]
+        self.assertEqual([target.moved for target in self.unlike((lost,), (2,), (), offsets)], [(8, 8, 136)])
         self.assertEqual(self.unlike((lost,), (2,), [Shift(0, 2, 128, 50), Shift(1, 2, 128, 50)]), [])
         self.assertEqual(self.unlike((full,), (2,), (), offsets), [])
         self.assertEqual(self.unlike((lost,), (), (), offsets), [])
 
     def test_images_of_which_some_begin_alike(self) -> None:
         """Few rows tie those, where others hold zeros: the others may be as many as there are. Copies are no such images."""
-        few = ties.Known(Family((0,), 500, 8, 900, "5", 0))
-        offsets = [Unlike((8, 8, 136), ties.Known(Family((0, 1, 2), 500, 8, 900, "5", 1)))]
-        self.assertEqual([aim.moved for aim in self.unlike((few,), (1, 2), (), offsets)], [(8, 8, 136)])
-        for other in (dataclasses.replace(few.family, parity=1), dataclasses.replace(few.family, level="10")):
+        few = ties.Known(ImageGroup((0,), 500, 8, 900, "5", 0))
+        offsets = [Unlike((8, 8, 136), ties.Known(ImageGroup((0, 1, 2), 500, 8, 900, "5", 1)))]
+        self.assertEqual([target.moved for target in self.unlike((few,), (1, 2), (), offsets)], [(8, 8, 136)])
+        for other in (dataclasses.replace(few.group, parity=1), dataclasses.replace(few.group, level="10")):
             self.assertEqual(self.unlike((few, ties.Known(other)), (1, 2), (), offsets), [])
 
-    def copies(self, aim: Aim, *content: int) -> tuple[bool, list[str]]:
-        """Whether the search is at its end, and what was asked of copies, where candidates of these questions have a sign."""
+    def copies(self, target: Target, *content: int) -> tuple[bool, list[str]]:
+        """Whether the search is at its end, and what was asked of copies, where candidates of these questions have a rating."""
         asked: list[str] = []
         it, _ = evident([*self.images, Image("d", 3, 900, like=0), Image("e", 4, 900, like=0)], NoTools({}), Options(("a",)))
 
-        def mirrors(_hunt: Any, question: Copied) -> bool:
+        def mirrors(_scope: Any, question: Copied) -> bool:
             asked.append(f"{question.line().split()[1]} {question.members}")
             it.search.tested += [cast(Any, types.SimpleNamespace(score=Score.CHECKED))] * (len(asked) in content)
             return False
         setattr(it.search, "mirrors", mirrors)
-        hunt = types.SimpleNamespace(evidence=types.SimpleNamespace(tried=(0,), end=900))
-        return it.copies(cast(Any, hunt), aim, 0), asked
+        scope = types.SimpleNamespace(evidence=types.SimpleNamespace(tried=(0,), end=900))
+        return it.copies(cast(Any, scope), target, 0), asked
 
     def test_what_is_asked_of_copies(self) -> None:
         """What copies are told of is asked until a candidate is content; of three images that are the same, and another one, six in threes first."""
-        side = Aim((0, 1, 2), Span(0, 900), "why", copied=True)
+        side = Target((0, 1, 2), Span(0, 900), "why", copied=True)
         self.assertEqual(self.copies(side, 3), (True, ["near2 3", "near3 3", "near2 4"]))
         done, asked = self.copies(side)
         self.assertEqual((done, asked[-1]), (False, "near4 6"))
-        same = Aim((0, 1, 3, 4), Span(0, 900), "why", copied=True)
+        same = Target((0, 1, 3, 4), Span(0, 900), "why", copied=True)
         self.assertEqual(self.copies(same, 2)[1], ["near3 6", "near3 4"])
         few = dataclasses.replace(side, missing=(0, 1))
         self.assertEqual(self.copies(few)[1], ["near2 3", "near3 3", "near2 4", "near3 4", "near4 4"])
         self.assertEqual(self.copies(dataclasses.replace(side, missing=(2, 3)))[1][0], "near2 5")
-        apart = Aim((0, 1, 2), Span(0, 900), "why", copied=True, apart=128)
+        apart = Target((0, 1, 2), Span(0, 900), "why", copied=True, apart=128)
         self.assertEqual(self.copies(apart, 2)[1], ["offset2,offset3 3", "far2,far3 3"])
 
 
@@ -414,17 +414,17 @@ class Enough(unittest.TestCase):
     """Which candidates say enough."""
 
     def test_content_or_closed(self) -> None:
-        """One with a sign does, and one that is encrypted where parity speaks for it."""
+        """One with a rating does, and one that is encrypted where parity speaks for it."""
         def candidate(score: Score, parity: bool, encrypted: list[str]) -> Any:
-            trial = types.SimpleNamespace(shape=types.SimpleNamespace(parity=parity))
-            return types.SimpleNamespace(score=score, trial=trial, found=types.SimpleNamespace(encrypted=encrypted))
+            step = types.SimpleNamespace(shape=types.SimpleNamespace(parity=parity))
+            return types.SimpleNamespace(score=score, step=step, found=types.SimpleNamespace(encrypted=encrypted))
         found = [candidate(Score.CHECKED, False, []), candidate(Score.KNOWN, True, ["LUKS"]), candidate(Score.KNOWN, False, ["LUKS"]),
                  candidate(Score.KNOWN, True, [])]
         self.assertEqual(list(map(evident_module.enough, found)), [True, True, False, False])
 
 
 class Parts(unittest.TestCase):
-    """The parts of the disks that are searched, and the hunt in which all else is."""
+    """The parts of the disks that are searched, and the scope in which all else is."""
 
     images = [Image(name, number, 900, first=8, heads=(Head("mbr", number, 4), Head("mbr", number, 200))) for number, name in enumerate("abc")]
 
@@ -462,7 +462,7 @@ class Parts(unittest.TestCase):
         seen = found.within((2, 0), Span(100, 300, True))
         self.assertEqual([(it.number, it.sectors, [head.sector for head in it.heads]) for it in seen], [(2, 300, [200]), (0, 300, [200])])
 
-    def test_hunt(self) -> None:
+    def test_scope(self) -> None:
         """All else is tried in the first partition that was searched, or over all images."""
         cases: list[tuple[list[Part], tuple[int, ...], int]] = [
             ([Part((0, 2), Span(100, 300, True)), Part((0, 1, 2), Span(300, 800, True))], (0, 2), 100),
@@ -471,9 +471,9 @@ class Parts(unittest.TestCase):
             found, report = evident(self.images, NoTools({}), Options(("a",)))
             setattr(found.search, "say_late", None)
             found.searched = parts
-            with mock.patch("reraid_try.policy.evident.Hunt") as hunt:
-                found.hunt()
-            self.assertEqual((tuple(it.number for it in hunt.call_args[0][2]), hunt.call_args[1].get("start", 0)), (images, start))
+            with mock.patch("reraid_try.policy.evident.Scope") as scope:
+                found.scope()
+            self.assertEqual((tuple(it.number for it in scope.call_args[0][2]), scope.call_args[1].get("start", 0)), (images, start))
             self.assertEqual(report.lines, ["continuing in the partition from sector 100 on"] if start else [])
 
     def test_images_that_are_the_same(self) -> None:
@@ -481,8 +481,8 @@ class Parts(unittest.TestCase):
         heap = [*self.images, Image("d", 3, 900, first=8, like=1), Image("e", 4, 900)]
         part = Part((0, 1, 2), Span(0, 900))
         found, _ = evident(heap, NoTools({}), Options(("a",)))
-        aim, = found.alike(part)
-        self.assertEqual((aim.images, aim.why, aim.copied, aim.shapes), ((0, 1, 2, 3), "image 3 is the same as image 1", True, ()))
+        target, = found.alike(part)
+        self.assertEqual((target.images, target.why, target.copied, target.shapes), ((0, 1, 2, 3), "image 3 is the same as image 1", True, ()))
         self.assertEqual(found.alike(Part((0, 1, 2), Span(100, 500, True))), [])
         self.assertEqual(evident(heap, NoTools({}), Options(("a",), levels=("5",)))[0].alike(part), [])
         self.assertEqual(evident(self.images, NoTools({}), Options(("a",)))[0].alike(part), [])
@@ -501,146 +501,147 @@ class Parts(unittest.TestCase):
             found, report = evident(images, NoTools({}), Options(("a",)))
             with mock.patch("reraid_try.policy.evident.metadata.examine", return_value=members) as examine, \
                     mock.patch("reraid_try.policy.evident.metadata.examine_lvm", return_value=[]) as lvm:
-                aims = found.by_metadata(part)
-            self.assertEqual((len(aims), len(report.lines)), (count, 3))
+                targets = found.by_metadata(part)
+            self.assertEqual((len(targets), len(report.lines)), (count, 3))
             self.assertEqual(examine.call_args[0][2:], ({number: images[number].name for number in part.images}, place))
             self.assertEqual(lvm.call_args[0][0], {number: start for number in part.images})
 
 
 class Sought(unittest.TestCase):
-    """The trials of an aim."""
+    """The steps of a target."""
 
-    def seek(self, aim: Aim, *found: Score, ends: bool = False) -> tuple[bool, list[str], Any]:
-        """Whether a candidate says enough, what was done, and how the hunt was begun, where the trials find candidates of these scores."""
+    def seek(self, target: Target, *found: Score, ends: bool = False) -> tuple[bool, list[str], Any]:
+        """Whether a candidate says enough, what was done, and how the scope was begun, where the steps find candidates of these scores."""
         done: list[str] = []
         it, report = evident([Image(name, number, 900, first=8) for number, name in enumerate("abc")], NoTools({}), Options(("a",)))
         it.search.tested.append(cast(Any, types.SimpleNamespace(score=Score.WHOLE)))
         setattr(it.search, "say_late", None)
         setattr(it.search, "say_evidence", lambda _: done.append("evidence"))
 
-        def copies(_hunt: Any, _aim: Aim, before: int) -> bool:
+        def copies(_scope: Any, _target: Target, before: int) -> bool:
             done.append(f"copies {before}")
             return ends
 
-        def plainly(_hunt: Any, _aim: Aim, before: int) -> bool:
+        def plainly(_scope: Any, _target: Target, before: int) -> bool:
             done.append(f"plain {before} {it.search.why}")
             return ends
 
-        def loosened(_hunt: Any, _aim: Aim, before: int) -> None:
-            done.append(f"loosened {before} {it.search.why}")
-            trial = types.SimpleNamespace(shape=types.SimpleNamespace(parity=True))
-            it.search.tested.extend(cast(Any, types.SimpleNamespace(score=score, trial=trial, found=types.SimpleNamespace(encrypted=[])))
+        def relaxed(_scope: Any, _target: Target, before: int) -> None:
+            done.append(f"relaxed {before} {it.search.why}")
+            step = types.SimpleNamespace(shape=types.SimpleNamespace(parity=True))
+            it.search.tested.extend(cast(Any, types.SimpleNamespace(score=score, step=step, found=types.SimpleNamespace(encrypted=[])))
                                     for score in found)
         setattr(it, "copies", copies)
         setattr(it, "plainly", plainly)
-        setattr(it, "loosened", loosened)
+        setattr(it, "relaxed", relaxed)
 
-        def with_all(_hunt: Any, _aim: Aim, unsound: Unsound, before: int) -> bool:
+        def with_all(_scope: Any, _target: Target, unsound: Unsound, before: int) -> bool:
             done.append(f"all {unsound.images} {before}")
             return 1 in unsound.images
         setattr(it, "with_all", with_all)
-        with mock.patch("reraid_try.policy.evident.Hunt") as hunt:
+        with mock.patch("reraid_try.policy.evident.Scope") as scope:
             later: list[Later] = []
-            told = it.seek(aim, later)
-            self.assertEqual([one.aim for one in later], [aim] * bool(aim.moved and not ends))
-            told = any(it.loosen(one) for one in later) or told
-        self.assertEqual((report.lines, it.search.why), ([f"trying first: {aim.why}"], ""))
-        return told, done, hunt.call_args
+            told = it.seek(target, later)
+            self.assertEqual([one.target for one in later], [target] * bool(target.moved and not ends))
+            told = any(it.relax(one) for one in later) or told
+        self.assertEqual((report.lines, it.search.why), ([f"trying first: {target.why}"], ""))
+        return told, done, scope.call_args
 
     def test_what_is_done(self) -> None:
         """Copies first where they are asked for, and then the shapes, unless that was enough; candidates of before say nothing."""
-        aim = Aim((2, 0), Span(100, 300, True), "why", asked=(("chunks", "8"),), tied=True)
-        told, done, begun = self.seek(aim, Score.CHECKED)
-        self.assertEqual((told, done), (True, ["evidence", "plain 1 why", "loosened 1 why"]))
+        target = Target((2, 0), Span(100, 300, True), "why", asked=(("chunks", "8"),), tied=True)
+        told, done, begun = self.seek(target, Score.CHECKED)
+        self.assertEqual((told, done), (True, ["evidence", "plain 1 why", "relaxed 1 why"]))
         self.assertEqual(([it.number for it in begun[0][2]], begun[0][0].seconds), ([2, 0], 10))
         self.assertEqual(begun[1], {"start": 100, "asked": {"chunks": "8"}, "tied": True, "shared": "the surveys"})
-        self.assertEqual(self.seek(aim, Score.KNOWN)[0], False)
-        copied = Aim((2, 0), Span(0, 900), "why", copied=True)
-        self.assertEqual(self.seek(copied)[:2], (False, ["evidence", "copies 1", "plain 1 why", "loosened 1 why"]))
-        self.assertEqual(self.seek(dataclasses.replace(aim, moved=(8, 0)), Score.CHECKED)[:2], (True, ["evidence", "plain 1 why", "loosened 1 why"]))
-        self.assertEqual(self.seek(aim, ends=True)[:2], (False, ["evidence", "plain 1 why"]))
+        self.assertEqual(self.seek(target, Score.KNOWN)[0], False)
+        copied = Target((2, 0), Span(0, 900), "why", copied=True)
+        self.assertEqual(self.seek(copied)[:2], (False, ["evidence", "copies 1", "plain 1 why", "relaxed 1 why"]))
+        self.assertEqual(self.seek(dataclasses.replace(target, moved=(8, 0)), Score.CHECKED)[:2],
+                         (True, ["evidence", "plain 1 why", "relaxed 1 why"]))
+        self.assertEqual(self.seek(target, ends=True)[:2], (False, ["evidence", "plain 1 why"]))
         self.assertEqual(self.seek(copied, ends=True)[:2], (False, ["evidence", "copies 1"]))
         for images in ((0, 1, 2), (0, 2)):
-            every = dataclasses.replace(aim, unsound=Unsound(images, Shape("5", 3)))
-            then = ["loosened 1 why"] * (1 not in images)
+            every = dataclasses.replace(target, unsound=Unsound(images, Shape("5", 3)))
+            then = ["relaxed 1 why"] * (1 not in images)
             self.assertEqual(self.seek(every)[1], ["evidence", "plain 1 why", f"all {images} 1", *then])
             self.assertEqual(self.seek(every, ends=True)[1], ["evidence", "plain 1 why", f"all {images} 1"])
 
     def with_all(self, images: tuple[int, ...], has: int | None) -> tuple[list[Any], list[Any], list[str], bool]:
-        """The trials of an aim over images 2 and 0 with all of a family, the hunts that were begun for them, what was said, and whether a candidate
-        with all of them has a sign, where the trial with so many things loosened finds it, 0 of which is one that was there before."""
+        """The steps of a target over images 2 and 0 with all of a group, the scopes that were begun for them, what was said, and whether a
+        candidate with all of them has a rating, where the step with so many things relaxed finds it, 0 of which is one that was there before."""
         it, report = evident([Image(name, number, 900, first=8) for number, name in enumerate("abc")], NoTools({}), Options(("a",), seconds=60))
         setattr(it.search, "say_late", None)
         true, less = (cast(Any, types.SimpleNamespace(score=score, word=types.SimpleNamespace(images=those)))
                       for score, those in ((Score.CHECKED, (0, 1, 2)), (Score.WHOLE, (1,))))
-        steps: list[Any] = []
+        stages: list[Any] = []
 
-        def step(asked: Step, hunt: Any) -> bool:
-            """A trial."""
-            steps.append((hunt.name, asked.count, asked.shapes, hunt.program.seconds, asked.only, it.search.why))
+        def stage(asked: Stage, scope: Any) -> bool:
+            """A step."""
+            stages.append((scope.name, asked.count, asked.shapes, scope.program.seconds, asked.only, it.search.why))
             it.search.tested += [true] * (has == asked.count)
             return False
-        setattr(it.search, "take_step", step)
+        setattr(it.search, "take_stage", stage)
         it.search.why = "why"
         it.search.tested += [true, less] + [true] * (has == 0)
         unsound = Unsound(images, Shape("5", 3))
-        aim = Aim((2, 0), Span(100, 300, True), "why", asked=(("chunks", "8"),), tied=True, unsound=unsound)
-        with mock.patch("reraid_try.policy.evident.Hunt") as hunt:
-            hunt.return_value = types.SimpleNamespace(name="new", program=types.SimpleNamespace(seconds=10))
+        target = Target((2, 0), Span(100, 300, True), "why", asked=(("chunks", "8"),), tied=True, unsound=unsound)
+        with mock.patch("reraid_try.policy.evident.Scope") as scope:
+            scope.return_value = types.SimpleNamespace(name="new", program=types.SimpleNamespace(seconds=10))
             over = cast(Any, types.SimpleNamespace(name="old", program=types.SimpleNamespace(seconds=10)))
-            told = it.with_all(over, aim, unsound, 1)
+            told = it.with_all(over, target, unsound, 1)
             self.assertEqual(it.search.why, "why")
-            return steps, [([one.number for one in call[0][2]], call[1]) for call in hunt.call_args_list], report.lines, told
+            return stages, [([one.number for one in call[0][2]], call[1]) for call in scope.call_args_list], report.lines, told
 
     def test_with_all(self) -> None:
-        """Where few rows leave images out, all of the family are tried as well, with rows that may be bad, until a candidate with all of them has a
-        sign: in the same hunt where the images are the same, and else in one over all of them."""
+        """Where few rows leave images out, all of the group are tried as well, with rows that may be bad, until a candidate with all of them
+        has a rating: in the same scope where the images are the same, and else in one over all of them."""
         for images, name in (((2, 0), "old"), ((0, 1, 2), "new")):
             why = Unsound(images, Shape("5", 3)).line()
             for has, count in ((None, 2), (0, 0), (1, 1), (2, 2)):
-                steps, begun, said, told = self.with_all(images, has)
+                stages, begun, said, told = self.with_all(images, has)
                 self.assertIs(told, has is not None)
-                self.assertEqual(steps, [(name, number, (Shape("5", 3),), 60, is_of_bad_rows, why) for number in (1, 2)][:count])
+                self.assertEqual(stages, [(name, number, (Shape("5", 3),), 60, is_of_bad_rows, why) for number in (1, 2)][:count])
                 self.assertEqual(begun, [([0, 1, 2], {"start": 100, "asked": {"chunks": "8"}, "tied": True, "shared": "the surveys"})] *
                                  (name == "new" and count > 0))
                 self.assertEqual(said, [why] * (count > 0))
 
     def test_bad_rows(self) -> None:
-        """What is loosened then: rows that may be bad, and what one kind of group needs."""
-        step = with_bad_rows(2, Shape("5", 3))
-        asked = (cures.bad_rows(9, [0]), cures.no_records(), cures.misfits(), cures.delays())
-        self.assertEqual((step.shapes, step.count, step.every), ((Shape("5", 3),), 2, False))
-        self.assertEqual([bool(step.only and step.only(cure)) for cure in asked], [True, True, False, False])
+        """What is relaxed then: rows that may be bad, and what one kind of group needs."""
+        stage = with_bad_rows(2, Shape("5", 3))
+        asked = (relaxations.bad_rows(9, [0]), relaxations.no_records(), relaxations.misfits(), relaxations.delays())
+        self.assertEqual((stage.shapes, stage.count, stage.every), ((Shape("5", 3),), 2, False))
+        self.assertEqual([bool(stage.only and stage.only(relaxation)) for relaxation in asked], [True, True, False, False])
 
     def test_time_of_a_question(self) -> None:
-        """A sixth of that of a trial, and five seconds at least."""
+        """A sixth of that of a step, and five seconds at least."""
         for seconds, part in ((60, 10), (31, 5), (36, 6), (9, 5)):
             self.assertEqual(evident([], NoTools({}), Options(("a",), seconds=seconds))[0].options.seconds, part)
 
     def test_where_parity_may_lie(self) -> None:
-        """It is asked of what is tied at levels 5 and 6, over what the images of the aim have, at the first shape alone."""
+        """It is asked of what is tied at levels 5 and 6, over what the images of the target have, at the first shape alone."""
         it, _ = evident([Image(name, number, 900 - number, first=8) for number, name in enumerate("abc")], NoTools({}), Options(("a",)))
         asked: list[Any] = []
         setattr(it, "asked", lambda: types.SimpleNamespace(relations=lambda *words: asked.append(words)))
         five, zero = Shape("5", 3, 1), Shape("0", 2)
-        aim = Aim((0, 2), Span(0, 2000), "why", (five, zero), tied=True)
-        each = dataclasses.replace(aim, asked=(("mode", "each"),))
-        for of, wanted in ((aim, [((0, 2), 0, 898, 1, ())]), (dataclasses.replace(aim, span=Span(100, 500)), [((0, 2), 100, 500, 1, ())]),
-                           (dataclasses.replace(aim, images=(0,), span=Span(0, 40 * 16384)), [((0,), 0, 900, 1, ())]),
+        target = Target((0, 2), Span(0, 2000), "why", (five, zero), tied=True)
+        each = dataclasses.replace(target, asked=(("mode", "each"),))
+        for of, wanted in ((target, [((0, 2), 0, 898, 1, ())]), (dataclasses.replace(target, span=Span(100, 500)), [((0, 2), 100, 500, 1, ())]),
+                           (dataclasses.replace(target, images=(0,), span=Span(0, 40 * 16384)), [((0,), 0, 900, 1, ())]),
                            (dataclasses.replace(each, moved=(16, 8)), [((0, 2), 0, 882, 1, (16, 8))]), (each, []),
-                           (dataclasses.replace(aim, shapes=(zero, five)), [])):
+                           (dataclasses.replace(target, shapes=(zero, five)), [])):
             asked.clear()
             self.assertIsNone(it.places_of(of, of.shapes[0]))
             self.assertEqual(asked, wanted)
             self.assertIsNone(it.places_of(of, of.shapes[1]))
             self.assertEqual(asked, wanted)
         setattr(it, "asked", lambda: types.SimpleNamespace(relations=lambda *_: Relations(1, ())))
-        found = it.places_of(dataclasses.replace(aim, images=(2, 0)), five)
+        found = it.places_of(dataclasses.replace(target, images=(2, 0)), five)
         assert found
         self.assertEqual((found.images, found.level, found.members), ((2, 0), "5", 3))
         long, _ = evident([Image("a", 0, 1 << 20)] * 2, NoTools({}), Options(("a",)))
         setattr(long, "asked", lambda: types.SimpleNamespace(relations=lambda *words: asked.append(words)))
-        long.places_of(Aim((0, 1), Span(0, 1 << 20), "why", (Shape("6", 4, 2),), tied=True), Shape("6", 4, 2))
+        long.places_of(Target((0, 1), Span(0, 1 << 20), "why", (Shape("6", 4, 2),), tied=True), Shape("6", 4, 2))
         self.assertEqual(asked[-1][3], 64)
 
     def test_where_parity_may_lie_on_what_nothing_ties(self) -> None:
@@ -653,11 +654,11 @@ class Sought(unittest.TestCase):
             return Relations(1, ())
         setattr(it, "asked", lambda: types.SimpleNamespace(relations=relations))
         shapes = (Shape("0", 3), Shape("5", 4, 1), Shape("6", 5, 2), Shape("6", 4, 1), Shape("5", 3))
-        aim = Aim((0, 1, 2), Span(0, 900), "why", shapes)
-        found = [it.places_of(aim, shape) for shape in shapes]
+        target = Target((0, 1, 2), Span(0, 900), "why", shapes)
+        found = [it.places_of(target, shape) for shape in shapes]
         self.assertEqual([places and (places.level, places.members) for places in found], [None, ("5", 4), ("6", 5), None, None])
         self.assertEqual(len(asked), 1)
-        it.places_of(dataclasses.replace(aim, images=(0, 1)), shapes[1])
+        it.places_of(dataclasses.replace(target, images=(0, 1)), shapes[1])
         self.assertEqual([words[0] for words in asked], [(0, 1, 2), (0, 1)])
 
 
@@ -665,24 +666,24 @@ class Unread(unittest.TestCase):
     """Rows that maps call unread."""
 
     def test_rows(self) -> None:
-        """Those of the images of an aim, each moved by its offset."""
+        """Those of the images of a target, each moved by its offset."""
         maps = [None, Map("b.map", "", ((0, 5120, "+"), (5120, 512, "-"), (5632, 90000, "+"))),
                 Map("c.map", "", ((0, 1024, "*"), (1024, 90000, "+")))]
         images = [Image(name, number, 100, map=it) for number, (name, it) in enumerate(zip("abc", maps))]
         found, _ = evident(images, NoTools({}), Options(("a",)))
         for numbers, moved, gaps in (((0, 1, 2), (), [range(10, 11), range(0, 2)]), ((0, 1), (), [range(10, 11)]), ((2, 0), (), [range(0, 2)]),
                                      ((0, 1, 2), (5, 4, 1), [range(6, 7), range(0, 1)])):
-            self.assertEqual(list(found.unread(Aim(numbers, Span(0, 9), "why", moved=moved))), gaps)
+            self.assertEqual(list(found.unread(Target(numbers, Span(0, 9), "why", moved=moved))), gaps)
 
 
 class Evidence(unittest.TestCase):
     """What images say."""
 
-    def aims(self, images: Sequence[Image], runner: Standin, options: Options | None = None) -> tuple[list[Aim], list[str]]:
-        """The aims of all parts, and what was said."""
+    def targets(self, images: Sequence[Image], runner: Standin, options: Options | None = None) -> tuple[list[Target], list[str]]:
+        """The targets of all parts, and what was said."""
         found, report = evident(images, runner, options or Options(tuple(image.name for image in images)))
         setattr(found, "by_metadata", lambda part: [])
-        return [aim for part in found.parts() for aim in found.aims(part)], report.lines
+        return [target for part in found.parts() for target in found.targets(part)], report.lines
 
     def test_level_6_with_a_foreign_disk(self) -> None:
         """The images that belong together are searched, at the level and with as many lost as ties say."""
@@ -691,36 +692,37 @@ class Evidence(unittest.TestCase):
         runner, images = disks(made)
         with mock.patch("reraid_try.policy.evident.unlike.found_shifts", return_value=Distances()), \
                 mock.patch("reraid_try.policy.evident.metadata.lvm_starts", return_value={}):
-            found, said = self.aims(images, runner)
-        self.assertEqual([(aim.images, aim.shapes, dict(aim.asked), aim.begin) for aim in found],
+            found, said = self.targets(images, runner)
+        self.assertEqual([(target.images, target.shapes, dict(target.asked), target.begin) for target in found],
                          [((0, 1, 2, 3, 4), (Shape("6", 6, 1),), {"chunks": "16"}, 0)])
         self.assertEqual(len(said), 2)
 
     def test_in_which_order(self) -> None:
-        """Metadata; data that begin at unlike sectors; two images that may be copies, few missing; families; such images, more missing; copies; whole
-        images that are the same; what nothing ties. Of copies those too of which an image is left out."""
+        """Metadata; data that begin at unlike sectors; two images that may be copies, few missing; groups; such images, more missing; copies;
+        whole images that are the same; what nothing ties. Of copies those too of which an image is left out."""
         it, _ = evident([Image(name, number, 300, first=0) for number, name in enumerate("abc")], Standin({}, Answer(None)), Options(("a",)))
 
-        def aims(why: str) -> Any:
+        def targets(why: str) -> Any:
             count = 2 if why == "perhaps" else 1
-            return lambda *_: [Aim((0, 1, 2), Span(0, 300), why, (Shape("0", 3),))] * count
-        with mock.patch.multiple(it, unlike=aims("unlike"), alike=aims("alike"), by_metadata=aims("metadata")), \
-                mock.patch.multiple("reraid_try.policy.evident.plain", perhaps_copied=aims("perhaps"), tied=aims("tied"), copied=aims("copied"),
-                                    without_each=lambda them, images: [dataclasses.replace(aim, why=f"{aim.why} without {images}") for aim in them],
-                                    untied=aims("untied")):
-            self.assertEqual([aim.why for aim in it.aims(Part((0, 1, 2), Span(0, 300)))],
+            return lambda *_: [Target((0, 1, 2), Span(0, 300), why, (Shape("0", 3),))] * count
+        with mock.patch.multiple(it, unlike=targets("unlike"), alike=targets("alike"), by_metadata=targets("metadata")), \
+                mock.patch.multiple("reraid_try.policy.evident.plain", perhaps_copied=targets("perhaps"), tied=targets("tied"),
+                                    copied=targets("copied"),
+                                    without_each=lambda them, images: [dataclasses.replace(it, why=f"{it.why} without {images}") for it in them],
+                                    untied=targets("untied")):
+            self.assertEqual([target.why for target in it.targets(Part((0, 1, 2), Span(0, 300)))],
                              ["metadata", "unlike", "perhaps", "tied", "perhaps", "copied without []", "alike without []", "untied"])
 
     def test_encrypted_images_that_nothing_ties(self) -> None:
-        """Only metadata give a reason for a trial then; in a partition others may."""
-        metadata = Aim((0, 1, 2), Span(0, 300), "metadata", (Shape("0", 3),))
+        """Only metadata give a reason for a step then; in a partition others may."""
+        metadata = Target((0, 1, 2), Span(0, 300), "metadata", (Shape("0", 3),))
         images = [Image(name, number, 300, first=0) for number, name in enumerate("abc")]
         for closed, partition, more in ((True, False, False), (False, False, True), (True, True, True)):
             it, _ = evident(images, Standin({}, Answer(None)), Options(("a",)), closed)
             with mock.patch.multiple(it, unlike=lambda *_: [], by_metadata=lambda *_: [metadata]), \
                     mock.patch("reraid_try.policy.evident.plain.untied", return_value=[dataclasses.replace(metadata, why="untied")]):
-                found = it.aims(Part((0, 1, 2), Span(0, 300, partition)))
-            self.assertEqual([aim.why for aim in found], ["metadata", "untied"] if more else ["metadata"])
+                found = it.targets(Part((0, 1, 2), Span(0, 300, partition)))
+            self.assertEqual([target.why for target in found], ["metadata", "untied"] if more else ["metadata"])
 
     def test_images_without_their_like(self) -> None:
         """Those that neither are the same as another one nor have one that is, and hold something."""
@@ -728,10 +730,10 @@ class Evidence(unittest.TestCase):
         it, _ = evident(images, Standin({}, Answer(None)), Options(("a",)))
         self.assertEqual(it.without_like(), [2, 3, 4])
         with mock.patch.multiple(it, unlike=lambda *_: [], by_metadata=lambda *_: []), \
-                mock.patch("reraid_try.policy.evident.plain.tied", side_effect=([], [Aim((2, 3), Span(0, 300), "tied")])):
-            found = [it.aims(Part((0, 2, 3, 4), Span(0, 300))) for _ in range(2)]
-        self.assertEqual([aim.images for aim in found[0]], [(0, 1, 2, 3, 4), (0, 1, 3, 4), (0, 1, 2, 4), (0, 1, 2, 3), (0, 1, 2, 3, 4)])
-        self.assertEqual([aim.images for aim in found[1]], [(2, 3), (0, 1, 2, 3, 4)])
+                mock.patch("reraid_try.policy.evident.plain.tied", side_effect=([], [Target((2, 3), Span(0, 300), "tied")])):
+            found = [it.targets(Part((0, 2, 3, 4), Span(0, 300))) for _ in range(2)]
+        self.assertEqual([target.images for target in found[0]], [(0, 1, 2, 3, 4), (0, 1, 3, 4), (0, 1, 2, 4), (0, 1, 2, 3), (0, 1, 2, 3, 4)])
+        self.assertEqual([target.images for target in found[1]], [(2, 3), (0, 1, 2, 3, 4)])
 
     def test_how_many_are_alike(self) -> None:
         """As many as most of the images that have their like; one where none has."""
@@ -749,8 +751,8 @@ class Evidence(unittest.TestCase):
         runner, images = disks(made)
         found, _ = evident(images, runner, Options(("a",)))
         setattr(found, "by_metadata", lambda _: [])
-        aim, = found.aims(Part(tuple(range(6)), Span(0, 300)))
-        self.assertEqual((aim.images, found.search.stale), ((0, 1, 2, 3, 5), {4}))
+        target, = found.targets(Part(tuple(range(6)), Span(0, 300)))
+        self.assertEqual((target.images, found.search.stale), ((0, 1, 2, 3, 5), {4}))
 
     def test_a_reshape(self) -> None:
         """Where it stands is said, and kept in mind for the end, once; all five disks are tried."""
@@ -760,8 +762,8 @@ class Evidence(unittest.TestCase):
         found, report = evident(images, runner, Options(("a",)))
         setattr(found, "by_metadata", lambda _: [])
         for _ in range(2):
-            aim, = found.aims(Part(tuple(range(5)), Span(0, 200)))
-        self.assertEqual((aim.images, aim.shapes), ((0, 1, 2, 3, 4), (Shape("5", 5),)))
+            target, = found.targets(Part(tuple(range(5)), Span(0, 200)))
+        self.assertEqual((target.images, target.shapes), ((0, 1, 2, 3, 4), (Shape("5", 5),)))
         self.assertIn("parity changes for good between sectors 99 and 100: before, it matches 5 images", report.text)
         self.assertEqual([(it.last, it.sector) for it in found.search.reshapes], [(99, 100)])
 
@@ -771,15 +773,15 @@ class Evidence(unittest.TestCase):
         runner, images = disks([[*row, row[1], bytes(rows.COLUMNS)] for row in rows.striped(rnd, 4, 5, 300)])
         images[4] = Image(images[4].name, 4, 300, first=0, like=1)
         images[5] = Image(images[5].name, 5, 300)
-        found, _ = self.aims(images, runner)
-        self.assertEqual([(aim.images, aim.shapes, aim.copied) for aim in found],
+        found, _ = self.targets(images, runner)
+        self.assertEqual([(target.images, target.shapes, target.copied) for target in found],
                          [((0, 1, 2, 3), (Shape("5", 4),), False), ((0, 1, 2, 3, 4), (), True)])
 
     def test_no_relations(self) -> None:
         """Where no relations were had in their time nothing is tried for their sake."""
         runner, images = disks([[bytes(rows.COLUMNS)] * 3] * 4)
         runner.answer = Answer(None)
-        self.assertEqual(self.aims(images, runner), ([], []))
+        self.assertEqual(self.targets(images, runner), ([], []))
 
     def test_partitions(self) -> None:
         """Without a table in common the whole disks are one part."""

@@ -47,7 +47,7 @@ def head_of(sector: int = FIRST) -> Plan:
 class Places(Here):
     def test_runs(self) -> None:
         """A byte of a volume lies on each image where its part of the data disks is, give or take a chunk."""
-        chunk = far.MOST_CHUNK
+        chunk = far.MAX_CHUNK
         for data, place, first in ((1, 0, 100), (4, 8 * GIB, 100 + 2 * GIB // SECTOR), (5, 5 * MIB + 4096, 100 + (MIB + 819) // SECTOR)):
             self.assertEqual(far.run_of(100, place, 3 * data * SECTOR, data), (first - chunk, first + 3 + chunk))
 
@@ -64,7 +64,7 @@ class Places(Here):
         names = tuple(sparse(name, END, {FIRST: superblock(), centre: b"x" * SECTOR}) for name in "abc")
         found = far.runs(head_of(), Asked(names, END, NEAR, (5,)))
         self.assertEqual(found[0], (FIRST - far.AROUND, FIRST + far.AROUND))
-        self.assertEqual(found[1:], ((centre - far.MOST_CHUNK, centre + far.TABLE + far.MOST_CHUNK),))
+        self.assertEqual(found[1:], ((centre - far.MAX_CHUNK, centre + far.TABLE + far.MAX_CHUNK),))
         empty = tuple(sparse(f"e{name}", END, {FIRST: superblock()}) for name in "abc")
         self.assertEqual(far.runs(head_of(), Asked(empty, END, NEAR, (5,))), ())
         self.assertEqual(far.runs(head_of(8), Asked(names, END, NEAR, (5,))), ())
@@ -75,7 +75,7 @@ class Places(Here):
         with mock.patch.object(extents, "held_by_any", lambda *_: [(0, 1)]):
             found = far.runs(head_of(), Asked(names, END, NEAR, (6, 7)))
         self.assertGreater(len(found), 10)
-        self.assertLessEqual(8 * SECTOR * sum(end - first for first, end in found if first > NEAR), compact.MOST_BYTES)
+        self.assertLessEqual(8 * SECTOR * sum(end - first for first, end in found if first > NEAR), compact.MAX_BYTES)
 
     def test_used_tables(self) -> None:
         """Descriptors of groups in which inodes are used name their tables; unused ones, and other bytes, none."""
@@ -100,7 +100,7 @@ class Surveyed(Here):
 
     def test_once(self) -> None:
         """They are surveyed once, and then serve what asks for landmarks up to the end of the images; others do not get them."""
-        far_place = 2 * far.AROUND + compact.GAP + far.MOST_CHUNK
+        far_place = 2 * far.AROUND + compact.GAP + far.MAX_CHUNK
         it, asked, runner = self.asked(f"mark inode 1 {far_place} at:1099511627776\n")
         self.assertTrue(it.far(0, "512", head_of(), asked) and it.far(0, "512", head_of(), asked))
         self.assertEqual(runner.count("reraid survey"), 1)

@@ -10,7 +10,7 @@ from unittest import mock
 
 from reraid_try.calls.commands import Answer
 from reraid_try.evidence import fills, texts
-from reraid_try.evidence.families import Family, Old
+from reraid_try.evidence.image_groups import ImageGroup, Old
 from reraid_try.evidence.fills import Fill, Why
 from reraid_try.evidence.images import Image, unread_by
 from reraid_try.evidence.maps import Map
@@ -144,13 +144,13 @@ class Asked(InFolder):
             self.assertIs(fills.in_run(found, tied), why, found)
 
     def test_rows_beside_a_run(self) -> None:
-        """Parity holds where all images of the family are tied, but for those that are zeros; two that hold the same by chance are not enough. Rows
-        of zeros alone count from the first row of the family on."""
-        family = Family((0, 1, 2), 100, 5, 99, "5", 1)
+        """Parity holds where all images of the group are tied, but for those that are zeros; two that hold the same by chance are not enough.
+        Rows of zeros alone count from the first row of the group on."""
+        group = ImageGroup((0, 1, 2), 100, 5, 99, "5", 1)
         for found, told in ((None, False), (rows((1, 1, (), [[2, 0, 1]]), (9, 9, (), ())), True), (rows((1, 1, (), [[2, 0]])), False),
                             (rows((1, 1, (1,), [[2, 0]])), True), (rows((1, 1, (0, 1, 2), ())), False), (rows((5, 5, (0, 1, 2), ())), True),
                             (rows((1, 1, (), ()), (9, 9, (), ())), False)):
-            self.assertIs(fills.holds_beside(found, family), told, found)
+            self.assertIs(fills.holds_beside(found, group), told, found)
 
     def test_which_rows_are_asked(self) -> None:
         asked: list[tuple[Sequence[int], int, int, int]] = []
@@ -161,15 +161,15 @@ class Asked(InFolder):
             def relations(self, numbers: Sequence[int], first: int, end: int, step: int) -> Relations:
                 asked.append((numbers, first, end, step))
                 return rows((first, first, (), [list(reversed(numbers))] if len(asked) % 2 == 0 else []))
-        ties, family = cast(Any, Kept()), Family((0, 1, 2), 100, 0, 99, "5", 1)
+        ties, group = cast(Any, Kept()), ImageGroup((0, 1, 2), 100, 0, 99, "5", 1)
         for run, first in (((5, 7), [(5, 7, 1), (4, 8, 3)]), ((0, 40), [(0, 40, 3), (40, 41, 41)]), ((90, 100), [(90, 100, 1), (89, 100, 11)])):
             asked.clear()
-            self.assertIs(fills.of_run(ties, family, run, 100), Why.UNREAD)
+            self.assertIs(fills.of_run(ties, group, run, 100), Why.UNREAD)
             self.assertEqual(asked, [((0, 1, 2), *it) for it in first])
         for run in ((95, 101), (0, 100)):
-            self.assertIs(fills.of_run(ties, family, run, 100), Why.UNTOLD)
+            self.assertIs(fills.of_run(ties, group, run, 100), Why.UNTOLD)
         asked[:] = [([], 0, 0, 0)]
-        self.assertIs(fills.of_run(ties, family, (5, 7), 100), Why.STORED)
+        self.assertIs(fills.of_run(ties, group, (5, 7), 100), Why.STORED)
 
     def test_a_run_beside_which_parity_fails(self) -> None:
         """Nothing tells that a text is an imaging program's if parity holds neither in it nor beside it."""
@@ -178,27 +178,27 @@ class Asked(InFolder):
 
             def relations(self, _numbers: Sequence[int], first: int, _end: int, _step: int) -> Relations:
                 return rows((first, first, (), []))
-        self.assertIs(fills.of_run(cast(Any, Loose()), Family((0, 1, 2), 100, 0, 99, "5", 1), (5, 7), 100), Why.UNTOLD)
+        self.assertIs(fills.of_run(cast(Any, Loose()), ImageGroup((0, 1, 2), 100, 0, 99, "5", 1), (5, 7), 100), Why.UNTOLD)
 
-    def test_which_families_tell(self) -> None:
-        """Parity tells of a family that has some to spare, and not of as many disks as are left when the level bears no more."""
-        def family(level: str | None, parity: int, *images: int, old: tuple[int, ...] = ()) -> Family:
-            return Family(images, 100, 0, 99, level, parity, tuple(Old(image, 9, 5) for image in old))
-        known = [family("5", 1, 0, 1, 2), family("6", 0, 3, 4, 5), family("10", 0, 6, 7), family("5", 1, 8, 9),
-                 family("6", 1, 10, 11, 12, 13, old=(13,))]
+    def test_which_image_groups_tell(self) -> None:
+        """Parity tells of a group that has some to spare, and not of as many disks as are left when the level bears no more."""
+        def group(level: str | None, parity: int, *images: int, old: tuple[int, ...] = ()) -> ImageGroup:
+            return ImageGroup(images, 100, 0, 99, level, parity, tuple(Old(image, 9, 5) for image in old))
+        known = [group("5", 1, 0, 1, 2), group("6", 0, 3, 4, 5), group("10", 0, 6, 7), group("5", 1, 8, 9),
+                 group("6", 1, 10, 11, 12, 13, old=(13,))]
         found = fills.telling(Told(tuple(map(Known, known)), asked=True))
         self.assertEqual(found, [known[0], known[4]])
-        self.assertEqual([fills.family_of(found, image) for image in (1, 3, 6, 8, 10, 13)],
+        self.assertEqual([fills.group_of(found, image) for image in (1, 3, 6, 8, 10, 13)],
                          [known[0], None, None, None, known[4], None])
 
     def test_places_of_a_text(self) -> None:
         images = [Image(name, number, 100) for number, name in enumerate("abc")]
-        known = [Family((0, 1, 2), 100, 0, 99, "5", 1)]
+        known = [ImageGroup((0, 1, 2), 100, 0, 99, "5", 1)]
         it = held(*((sector, BAD) for sector in range(1, 40, 2)))
         for told, why in ((["unread"] * 11 + ["stored"], Why.UNREAD), (["unread"] * 10 + ["stored"], Why.STORED), (["untold"], Why.UNTOLD),
                           (["untold", "unread"], Why.UNREAD), (["untold", "stored"], Why.STORED)):
             answers = iter([Why(word) for word in told])
-            with mock.patch.object(fills, "of_run", lambda *_: next(answers)), mock.patch.object(fills, "MOST_PLACES", len(told)):
+            with mock.patch.object(fills, "of_run", lambda *_: next(answers)), mock.patch.object(fills, "MAX_PLACES", len(told)):
                 here = held(*((2 * sector, BAD) for sector in range(len(told))))
                 self.assertIs(fills.asked(cast(Ties, None), images, known, 0, here), why)
         with mock.patch.object(fills, "of_run", side_effect=[Why.UNREAD] * 7) as of_run:
@@ -211,7 +211,7 @@ class Asked(InFolder):
         image = Image("a.img", 0, 1000)
         found = [Fill(image, held(*((sector, BAD) for sector in range(80))), Why.UNREAD, 1000)]
         for loose, told in ((0, True), (20, True), (21, False)):
-            self.assertIs(fills.explained(found, Family((0, 1, 2), 100, 0, 99, "5", 1, loose=loose), 10), told)
+            self.assertIs(fills.explained(found, ImageGroup((0, 1, 2), 100, 0, 99, "5", 1, loose=loose), 10), told)
 
     def test_what_is_told(self) -> None:
         image = Image("a.img", 0, 1000)

@@ -39,8 +39,8 @@ class Marks(unittest.TestCase):
         self.assertEqual(gathering.thinned({5, 1, 3}), [1, 3, 5])
 
     def test_many(self) -> None:
-        found = gathering.thinned(range(10 * gathering.MOST_MARKS))
-        self.assertEqual((len(found), found[:3]), (gathering.MOST_MARKS, [0, 10, 20]))
+        found = gathering.thinned(range(10 * gathering.MAX_MARKS))
+        self.assertEqual((len(found), found[:3]), (gathering.MAX_MARKS, [0, 10, 20]))
 
 
 class Regions(unittest.TestCase):
@@ -119,11 +119,11 @@ class Progress(unittest.TestCase):
         bar = Bar()
         bar.there = False
         with redirect_stderr(said):
-            bar.show("step 3: ")
+            bar.show("stage 3: ")
             bar.said -= 3600
             bar.tell()
             bar.tell()
-        self.assertEqual(said.getvalue(), "0:00 step 3: still running\n")
+        self.assertEqual(said.getvalue(), "0:00 stage 3: still running\n")
 
     def test_on_a_terminal(self) -> None:
         """What is done stands in one line, as wide as the terminal at most, until it is taken away."""
@@ -131,12 +131,12 @@ class Progress(unittest.TestCase):
         bar = Bar()
         bar.there = True
         with redirect_stderr(said), mock.patch.object(shutil, "get_terminal_size", lambda: os.terminal_size((28, 9))):
-            bar.show("trial 3", 1, 4)
-            bar.show("trial 4")
+            bar.show("stage 3", 1, 4)
+            bar.show("stage 4")
             bar.clear()
             bar.clear()
         clear = "\r\033[K"
-        self.assertEqual(said.getvalue(), f"{clear}0:00 trial 3 [#####        {clear}0:00 trial 4{clear}")
+        self.assertEqual(said.getvalue(), f"{clear}0:00 stage 3 [#####        {clear}0:00 stage 4{clear}")
 
     def test_another_time(self) -> None:
         """What is asked for in place of a minute is waited for, and a third of it for what is counted."""
@@ -144,16 +144,16 @@ class Progress(unittest.TestCase):
         bar = Bar(9)
         bar.there = False
         with redirect_stderr(said):
-            bar.show("trial 3", 1, 4)
+            bar.show("stage 3", 1, 4)
             bar.until, bar.said = bar.until - 2, bar.said - 8
-            bar.show("trial 3", 2, 4)
+            bar.show("stage 3", 2, 4)
             bar.tell()
             self.assertEqual(said.getvalue(), "")
             bar.until -= 1.5
-            bar.show("trial 3", 3, 4)
+            bar.show("stage 3", 3, 4)
             bar.said -= 9
             bar.tell()
-        self.assertEqual(said.getvalue(), "0:00 trial 3: 3 of 4\n0:00 trial 3: still running\n")
+        self.assertEqual(said.getvalue(), "0:00 stage 3: 3 of 4\n0:00 stage 3: still running\n")
 
 
 if __name__ == "__main__":

@@ -231,7 +231,7 @@ class Gathered(InFolder):
     def test_window(self) -> None:
         """It is asked for where it is less than all up to the end."""
         for most, window, asked in ((8000, 8000, ""), (7999, 7999, "7999")):
-            with mock.patch.object(gathered, "MOST_WINDOW", most):
+            with mock.patch.object(gathered, "MAX_WINDOW", most):
                 found = self.gather(self.plan())
             self.assertEqual((found.window, found.base.get("window")), (window, asked))
 

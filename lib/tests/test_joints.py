@@ -132,7 +132,7 @@ class Rivals(unittest.TestCase):
         """Their ratings, the same however often they are put in order."""
         for _ in range(3):
             kin.in_order(some, IMAGES)
-        return [it.score.sign for it in some]
+        return [it.score.rating for it in some]
 
     def test_a_file_that_is_broken_in_one_alone(self) -> None:
         good, bad = candidate(SET, having({"a": 9, "b": 7, "c": 0})), candidate(OTHER, having({"a": 9, "b": 0, "c": 0}))

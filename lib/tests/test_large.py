@@ -28,9 +28,9 @@ from reraid_try.options import Options
 from reraid_try.policy import mirrors, plain
 from reraid_try.policy.evident import Evident
 from reraid_try.policy.mirrors import Grouped
-from reraid_try.policy.plain import Aim, Span
+from reraid_try.policy.plain import Target, Span
 from reraid_try.policy.shapes import Shape
-from reraid_try.policy.trials import Trial
+from reraid_try.policy.steps import Step
 from tests.standin import Here, Standin, put
 
 SECTOR, MIB, GIB = 512, 1 << 20, 1 << 30
@@ -311,7 +311,7 @@ class Holes(Here):
         images = [Image(name, number, 2 * far, first=5000, last=far) for number, name in enumerate(names)]
         self.assertFalse(equal(images[0], images[1], 16 * GIB))
         self.assertFalse(equal(images[0], images[2], 16 * GIB))
-        with mock.patch.object(images_module, "MOST_COMPARED", 2500 << 10), mock.patch.object(images_module, "MORE_SAMPLES", 64):
+        with mock.patch.object(images_module, "MAX_COMPARED", 2500 << 10), mock.patch.object(images_module, "MORE_SAMPLES", 64):
             self.assertTrue(equal(dataclasses.replace(images[0], sectors=far), dataclasses.replace(images[2], sectors=far), 16 * GIB))
 
 
@@ -329,7 +329,7 @@ class Last(Here):
                 return file.read(count)
             counted = mock.Mock(wraps=file)
             counted.read = counting
-            with mock.patch.multiple(reading, MOST_BACK=8 * MIB, STEPS=64), \
+            with mock.patch.multiple(reading, MAX_BACK=8 * MIB, STEPS=64), \
                     mock.patch.object(reading, "data_runs", lambda _file, first, last: iter([(first, last)])):
                 found = reading.last_data(counted, 0, size)
                 assert found is not None
@@ -400,32 +400,32 @@ class Named(unittest.TestCase):
         """Metadata on images 2, 0 and 1 of an array of four disks, with slots 0, 1 and 3."""
         return [Member(image, "md 1.2", "id", level, 4, layout, 128, slot, 2048, 7) for image, slot in ((2, 0), (0, 1), (1, 3))]
 
-    def test_aim(self) -> None:
+    def test_target(self) -> None:
         """The set of the slots, with no more read than what parity is tested in; none where they tell too little."""
         for level, layout, word, shape in (("raid5", "left-symmetric", "5:ls:none:128:2048:2,0,-,1", Shape("5", 4, 1)),
                                            ("raid10", "near=2", "near2:128:2048:2,0,-,1", Shape("10", 4, 1))):
-            aim = plain.named_aim(self.members(level, layout), Span(0, 1 << 33), Options(("a", "b", "c")), 3)
-            assert aim
-            self.assertEqual((aim.word, aim.shapes, aim.images, aim.first), (word, (shape,), (0, 1, 2), (2048 + 524288) * 512))
-        self.assertIsNone(plain.named_aim(self.members("raid5", "unknown"), Span(0, 1 << 33), Options(("a",)), 3))
-        self.assertIsNone(plain.named_aim(self.members("raid5", "left-symmetric"), Span(0, 1 << 33), Options(("a",), levels=("6",)), 3))
+            target = plain.named_target(self.members(level, layout), Span(0, 1 << 33), Options(("a", "b", "c")), 3)
+            assert target
+            self.assertEqual((target.word, target.shapes, target.images, target.first), (word, (shape,), (0, 1, 2), (2048 + 524288) * 512))
+        self.assertIsNone(plain.named_target(self.members("raid5", "unknown"), Span(0, 1 << 33), Options(("a",)), 3))
+        self.assertIsNone(plain.named_target(self.members("raid5", "left-symmetric"), Span(0, 1 << 33), Options(("a",), levels=("6",)), 3))
 
     def test_tested(self) -> None:
-        """Just that set is tested, by its trial."""
-        taken: list[tuple[Trial, Listing]] = []
+        """Just that set is tested, by its step."""
+        taken: list[tuple[Step, Listing]] = []
 
-        def say(_hunt: Any, trial: Trial, listing: Listing) -> Trial:
-            taken.append((trial, listing))
-            return trial
+        def say(_scope: Any, step: Step, listing: Listing) -> Step:
+            taken.append((step, listing))
+            return step
 
-        def take(_hunt: Any, _trial: Trial, sets: Any, words: Any) -> None:
+        def take(_scope: Any, _step: Step, sets: Any, words: Any) -> None:
             self.assertEqual([words(it)[1] for it in sets], ["word of " + wanted])
-        search: Any = types.SimpleNamespace(options=Options(("a",)), say_trial=say, take=take)
-        hunt: Any = types.SimpleNamespace(asking=types.SimpleNamespace(request=lambda shape: Request()), word=lambda text: "word of " + text)
+        search: Any = types.SimpleNamespace(options=Options(("a",)), say_step=say, take=take)
+        scope: Any = types.SimpleNamespace(asking=types.SimpleNamespace(request=lambda shape: Request()), word=lambda text: "word of " + text)
         for wanted, shape in (("5:ls:none:128:2048:2,0,-,1", Shape("5", 4, 1)), ("near2:128:2048:2,0,-,1", Shape("10", 4, 1))):
-            Evident(search).test_named(hunt, Aim((0, 1, 2), Span(0, 9), "why", (shape,), word=wanted), wanted)
-            trial, listing = taken.pop()
-            self.assertEqual(([it.text for it in listing.sets], trial.shape, trial.copied is None), ([wanted], shape, shape.levels == "5"))
+            Evident(search).test_named(scope, Target((0, 1, 2), Span(0, 9), "why", (shape,), word=wanted), wanted)
+            step, listing = taken.pop()
+            self.assertEqual(([it.text for it in listing.sets], step.shape, step.copied is None), ([wanted], shape, shape.levels == "5"))
 
 
 class Groups(unittest.TestCase):

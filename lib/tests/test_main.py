@@ -90,12 +90,12 @@ def raising(error: BaseException) -> Callable[[], object]:
 
 
 class Statuses(Runs):
-    def test_nothing_is_signed(self) -> None:
+    def test_nothing_is_rated(self) -> None:
         for found in (Score.NOTHING, Score.KNOWN):
             status, out, _ = self.run_with(found=found)
             self.assertEqual((status, "no candidates" in out), (1, True))
 
-    def test_something_is_signed(self) -> None:
+    def test_something_is_rated(self) -> None:
         for found in (Score.CHECKED, Score.WHOLE):
             self.assertEqual(self.run_with(found=found)[0], 0)
 

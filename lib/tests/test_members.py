@@ -1,4 +1,4 @@
-"""Which images a command names, and by which numbers images are told where a hunt has some of them alone."""
+"""Which images a command names, and by which numbers images are told where a scope has some of them alone."""
 
 import dataclasses
 import types
@@ -19,10 +19,10 @@ from reraid_try.checks.volumes import Room
 from reraid_try.evidence.images import Image
 from reraid_try.evidence.maps import Map
 from reraid_try.options import Options
-from reraid_try.policy.hunt import Hunt
+from reraid_try.policy.scope import Scope
 from reraid_try.report import typed, words
 from tests.standin import InFolder, Standin, Told, put
-from tests.test_candidates import candidate, hunt_of, whole
+from tests.test_candidates import candidate, scope_of, whole
 
 
 def images(*lengths: int) -> list[Image]:
@@ -30,12 +30,12 @@ def images(*lengths: int) -> list[Image]:
     return [Image(f"i{number}", number, sectors) for number, sectors in enumerate(lengths)]
 
 
-def among(numbers: Sequence[int], *answers: tuple[str, object]) -> Hunt:
-    """A hunt over images that have these numbers among all, of which `reraid` says this."""
-    hunt = hunt_of(*answers)
+def among(numbers: Sequence[int], *answers: tuple[str, object]) -> Scope:
+    """A scope over images that have these numbers among all, of which `reraid` says this."""
+    scope = scope_of(*answers)
     seen = tuple(Image(f"i{number}", number, 8000) for number in numbers)
-    setattr(hunt, "evidence", types.SimpleNamespace(images=seen, filled=1000, window=8000, start=0, end=8000, unread=0))
-    return hunt
+    setattr(scope, "evidence", types.SimpleNamespace(images=seen, filled=1000, window=8000, start=0, end=8000, unread=0))
+    return scope
 
 
 class Named(unittest.TestCase):
@@ -124,11 +124,11 @@ class Read(InFolder):
     def test_volume_beside_a_shorter_image(self) -> None:
         check = ("reraid check", put("unsound 0 of 9\npass\n"))
         tests = self.over(images(9000, 700, 9100), ("reraid write", put("")))
-        tests.begins(candidate("0:plain:none:8:0:0,2", hunt=hunt_of(check)))
+        tests.begins(candidate("0:plain:none:8:0:0,2", scope=scope_of(check)))
         self.assertEqual(self.asked("write")[0::2], ["set=0:plain:none:8:0:0,1", "--", "i2"])
         tests = self.over(images(9000, 700, 9100), ("reraid write", put("")))
         with mock.patch.object(tests.checks, "look", return_value=whole()):
-            tests.read(candidate("0:plain:none:8:0:0,2", hunt=hunt_of(check)))
+            tests.read(candidate("0:plain:none:8:0:0,2", scope=scope_of(check)))
         self.assertEqual(self.asked("write"), ["set=0:plain:none:8:0:0,1", "end=9000", "--", "i0", "i2"])
 
     def test_what_maps_leave_lost(self) -> None:
@@ -143,26 +143,26 @@ class Read(InFolder):
     def test_far_copies_end_where_they_were_found(self) -> None:
         """With the end that was asked for."""
         tests = self.over(images(9000, 700, 9100), ("reraid mirrorwrite", put("")))
-        it = candidate("far2:8:0:0,2", hunt=hunt_of())
-        it.trial = dataclasses.replace(it.trial, copied=Copied((Copying("far", 2),), 2, end=80))
+        it = candidate("far2:8:0:0,2", scope=scope_of())
+        it.step = dataclasses.replace(it.step, copied=Copied((Copying("far", 2),), 2, end=80))
         tests.begins(it)
         self.assertEqual(self.asked("mirrorwrite"), ["set=far2:8:0:0,2", "end=80", "--", "i0", "i1", "i2"])
 
 
 class Numbers(InFolder):
-    """A hunt over images 1, 3, 4 and 6 of a heap: in its own sets they are 0 to 3."""
+    """A scope over images 1, 3, 4 and 6 of a heap: in its own sets they are 0 to 3."""
 
     heap = (1, 3, 4, 6)
 
     def found(self, listed: str, *answers: tuple[str, object], unsound: int = 9) -> Candidate:
-        """A candidate of that hunt, as it is made of a listed set, with so many unsound rows."""
-        hunt = among(self.heap, *answers)
-        it = candidate(hunt.word(listed).text, whole(), hunt=hunt, unsound=unsound)
+        """A candidate of that scope, as it is made of a listed set, with so many unsound rows."""
+        scope = among(self.heap, *answers)
+        it = candidate(scope.word(listed).text, whole(), scope=scope, unsound=unsound)
         it.listed = read_word(listed)
         return it
 
     def test_what_is_left_out(self) -> None:
-        """The hunt is asked by its own numbers, and people are told of those among all."""
+        """The scope is asked by its own numbers, and people are told of those among all."""
         def told(answered: list[str], _: str) -> Answer:
             return put(f"unsound {0 if '0,1,-,3' in answered[2] else 9} of 9\nfail\n")
         it = self.found("6:la:by-data:8:0:0,1,2,3", ("reraid check", told))
@@ -174,10 +174,10 @@ class Numbers(InFolder):
         places, = tests.left_out(it)
         self.assertEqual((places, report.lines), (frozenset({2}), ["  6:la:by-data:8:0:1,3,4,6: 9 rows inconsistent, 9 because of image 4"]))
         lesser = damage.lesser(it, places)
-        self.assertEqual((lesser.word.text, lesser.listed and lesser.listed.text, lesser.trial.loosened),
+        self.assertEqual((lesser.word.text, lesser.listed and lesser.listed.text, lesser.step.relaxed),
                          ("6:la:by-data:8:0:1,3,-,6", "6:la:by-data:8:0:0,1,-,3", ["without image 4"]))
         both = damage.lesser(it, frozenset({3, 0}))
-        self.assertEqual((both.word.text, both.trial.loosened), ("6:la:by-data:8:0:-,3,4,-", ["without image 1 and image 6"]))
+        self.assertEqual((both.word.text, both.step.relaxed), ("6:la:by-data:8:0:-,3,4,-", ["without image 1 and image 6"]))
         five = self.found("5:ls:none:8:0:0,1,2,3")
         self.assertEqual(tests.left_out(five), [frozenset({image}) for image in range(4)])
 
@@ -187,22 +187,22 @@ class Numbers(InFolder):
             rows = int(text.split("window ")[1].split()[0])
             return put(f"unsound {min(3, rows // 2000) if '0,3,1,2' in answered[2] else 900} of {rows}\nfail\n")
         it = self.found("6:ls:by-data:128:2048:0,-,1,2", ("reraid check", told))
-        found, = Rows(it.hunt).old(it)
+        found, = Rows(it.scope).old(it)
         self.assertEqual((found.image, found.slot, found.text("abcdefg")[:40]), (6, 1, "g is old or damaged from row 1999 on, or"))
 
     def stale(self, unsound: Sequence[int], rows: int = 1000) -> tuple[list[str], list[tuple[list[str], str]]]:
-        """What is said of image 5 of the heap, which is none of the hunt's and which ties name as old, where so many of the rows are unsound with it
+        """What is said of image 5 of the heap, which is none of the scope's and which ties name as old, where so many of the rows are unsound with it
         in slot 1 and in slot 4, and what was asked."""
         def told(answered: list[str], text: str) -> Answer:
             window = min(rows, int(text.split("window ")[1].split()[0]))
             bad = unsound[answered[2].endswith(",4")] if "i5" in answered else rows
             return put(f"unsound {max(0, bad - (rows - window))} of {window}\nfail\n")
         it = self.found("6:ls:by-data:128:2048:0,-,1,2,-", ("reraid check", told))
-        found = Rows(it.hunt).old(it, [Image("i5", 5, 7000, first=8)])
-        return [old.text("abcdefg") for old in found], [it for it in cast(Any, it.hunt).standin.asked if "i5" in it[0]]
+        found = Rows(it.scope).old(it, [Image("i5", 5, 7000, first=8)])
+        return [old.text("abcdefg") for old in found], [it for it in cast(Any, it.scope).standin.asked if "i5" in it[0]]
 
     def test_what_ties_name_as_old(self) -> None:
-        """It is asked of beside the images of the hunt, in each empty slot, and named with the slot and the row from which on it is old; also where
+        """It is asked of beside the images of the scope, in each empty slot, and named with the slot and the row from which on it is old; also where
         most rows are unsound, and not where nearly all are, or none."""
         said, asked = self.stale((800, 950))
         self.assertEqual(said, ["f is old or damaged from row 200 on, or from another array. In slot 1, parity is consistent with it in all but 800 "

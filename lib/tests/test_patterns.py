@@ -25,7 +25,7 @@ def told(rows: list[Rows], sectors: dict[tuple[int, int], bytes], step: int = 1,
 
 class Without(unittest.TestCase):
     # Enough rows without a tie, so that the others need not count.
-    LOOSE = Rows(1000, 1000 + 10 * patterns.LEAST_ROWS, NONE, ())
+    LOOSE = Rows(1000, 1000 + 10 * patterns.MIN_ROWS, NONE, ())
 
     def test_patterns(self) -> None:
         """What repeats, and counts in steps, is a pattern; random bytes and a part of a sector are none."""

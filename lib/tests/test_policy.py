@@ -1,4 +1,4 @@
-"""Shapes, cures, what is asked for, questions, hunts and mirrors."""
+"""Shapes, relaxations, what is asked for, questions, scopes and mirrors."""
 
 import dataclasses
 import unittest
@@ -13,15 +13,15 @@ from reraid_try.evidence.gathered import Evidence, Pairs
 from reraid_try.evidence.hints import Hint, Source, What
 from reraid_try.evidence.images import Image
 from reraid_try.options import Options
-from reraid_try.policy.cures import Family
-from reraid_try.policy.hunt import Hunt
-from reraid_try.policy import cures, mirrors
+from reraid_try.policy.relaxations import RelaxationKind
+from reraid_try.policy.scope import Scope
+from reraid_try.policy import relaxations, mirrors
 from reraid_try.policy.mirrors import Mirrors, groupings, is_striped, there
 from reraid_try.policy.plans import Asking
 from reraid_try.policy.questions import First, Questions
 from reraid_try.policy.shapes import Shape, Shapes
-from reraid_try.policy.steps import Step, delayed, of_kinds
-from reraid_try.policy.trials import Trial
+from reraid_try.policy.stages import Stage, delayed, of_kinds
+from reraid_try.policy.steps import Step
 from reraid_try.calls.formats import Ranked
 from reraid_try.calls.sets import NEAR_2, Copying, read_word
 from reraid_try.units import SECTOR
@@ -106,13 +106,13 @@ class OfShapes(unittest.TestCase):
                          [True, True, False, False])
 
 
-class OfCures(unittest.TestCase):
+class OfRelaxations(unittest.TestCase):
     def setUp(self) -> None:
         self.plan = plan_of(XFS, EXT, NTFS)
-        self.asked = cures.Asked(256, [2048], [[0, 2048]], [16], False, False)
+        self.asked = relaxations.Asked(256, [2048], [[0, 2048]], [16], False, False)
 
     def test_order(self) -> None:
-        names = [cure.name for cure in cures.in_order(self.plan, self.asked)]
+        names = [relaxation.name for relaxation in relaxations.in_order(self.plan, self.asked)]
         self.assertEqual(names, ["half the test range", "end before a superblock", "file records of number 0 left out",
                                  "without landmark group 1 (ext, 1 landmark)", "without landmark group 0 (xfs, 2 landmarks)",
                                  "without landmark group 2 (ntfs, 3 landmarks)", "only landmark group 2 (ntfs, 3 landmarks)",
@@ -122,55 +122,55 @@ class OfCures(unittest.TestCase):
     def test_what_one_image_alone_shows(self) -> None:
         """It is left out where others show something, and not where it is all there is."""
         one, both = ("ext", [("ext", 1, 7426, "at:262144")]), ("xfs", [("super", 0, 2048, "at:0"), ("super", 1, 2048, "at:0")])
-        self.assertEqual([(cure.number, cure.out) for cure in cures.image_cures(plan_of(both, one))], [(1, frozenset({1}))])
-        self.assertEqual(list(cures.image_cures(plan_of(one))), [])
+        self.assertEqual([(it.number, it.out) for it in relaxations.image_relaxations(plan_of(both, one))], [(1, frozenset({1}))])
+        self.assertEqual(list(relaxations.image_relaxations(plan_of(one))), [])
 
     def test_most_of_the_marks_only_where_all_is_tried(self) -> None:
         plan = plan_of(XFS, EXT)
-        self.assertEqual([cure.number for cure in cures.group_cures(plan, False)], [1])
-        self.assertEqual([cure.number for cure in cures.group_cures(plan, True)], [1, 0])
+        self.assertEqual([relaxation.number for relaxation in relaxations.group_relaxations(plan, False)], [1])
+        self.assertEqual([relaxation.number for relaxation in relaxations.group_relaxations(plan, True)], [1, 0])
 
     def test_groups_of_two_file_systems_of_one_kind(self) -> None:
         """Either may be of an older one, though one has more marks; not a stray mark beside many, nor one of another kind."""
         def ext(count: int) -> Marked:
             return "ext", [("ext", k, 7426 * count + k, "at:262144") for k in range(count)]
         for groups, numbers in [((ext(4), ext(2)), [1, 0]), ((ext(5), ext(2)), [1]), ((ext(4), XFS), [1])]:
-            self.assertEqual([cure.number for cure in cures.group_cures(plan_of(*groups), False)], numbers)
+            self.assertEqual([relaxation.number for relaxation in relaxations.group_relaxations(plan_of(*groups), False)], numbers)
 
     def test_what_one_image_shows(self) -> None:
-        found = list(cures.image_cures(self.plan))
-        self.assertEqual([(cure.name, cure.out, cure.number) for cure in found], [("without what only image 2 shows", frozenset({1}), 2)])
+        found = list(relaxations.image_relaxations(self.plan))
+        self.assertEqual([(it.name, it.out, it.number) for it in found], [("without what only image 2 shows", frozenset({1}), 2)])
         foreign = dataclasses.replace(self.asked, foreign=True)
-        self.assertEqual(cures.in_order(self.plan, foreign)[0].family, Family.IMAGE)
+        self.assertEqual(relaxations.in_order(self.plan, foreign)[0].relaxes, RelaxationKind.IMAGE)
 
     def test_requests(self) -> None:
         request = BASE.having(window=5000)
-        self.assertEqual(cures.half_window(self.plan).of(request).get("window"), "2500")
-        self.assertEqual(cures.half_window(self.plan).of(BASE).get("window"), "50000")
+        self.assertEqual(relaxations.half_window(self.plan).of(request).get("window"), "2500")
+        self.assertEqual(relaxations.half_window(self.plan).of(BASE).get("window"), "50000")
         # 100,000 sectors: the last whole 64 KiB begin at 99,968, and controllers have some more.
-        self.assertEqual(cures.before_superblock(self.plan).of(BASE).get("end"), str(99968 - 384))
+        self.assertEqual(relaxations.before_superblock(self.plan).of(BASE).get("end"), str(99968 - 384))
         # An end that comes earlier stays.
-        self.assertEqual(cures.before_superblock(self.plan).of(BASE.having(end=5000)).get("end"), "5000")
+        self.assertEqual(relaxations.before_superblock(self.plan).of(BASE.having(end=5000)).get("end"), "5000")
         large = plan_of(XFS, lengths=[(1 << 22) + 1] * 3)
-        self.assertEqual(cures.before_superblock(large).of(BASE.having(end=1 << 22)).get("end"), str((1 << 22) + 1 - 65536 - 384))
-        self.assertTrue(cures.no_records().of(BASE).records)
-        self.assertEqual(cures.misfits().of(BASE).get("misfits"), "8")
-        self.assertEqual(cures.bad_rows(7, [2048, 4096]).of(BASE).operands, BASE.having(badrows=7, offsets=2048).operands)
-        self.assertEqual(cures.bad_rows(7, [4096]).of(BASE).get("offsets"), "0,2048")
-        self.assertEqual(cures.more_offsets([16, 100000]).of(BASE).get("offsets"), "0,16,2048")
-        self.assertEqual((cures.delays().of(BASE).get("delays"), cures.delays().rows), ("16", False))
-        self.assertIn(",63,", cures.more_origins().of(BASE).get("origins"))
-        each = cures.offsets_each([0, 2048]).of(BASE)
-        self.assertEqual((each.is_each, each.get("window"), cures.offsets_each([0]).slow), (True, "8192", True))
-        self.assertEqual(cures.bare(self.plan).of(BASE).out, (0, 1, 2))
-        self.assertEqual(cures.group_cures(self.plan, True)[0].of(BASE).out, (1,))
-        self.assertEqual(cures.alone(self.plan, self.plan.groups[1]).of(BASE).out, (0, 2))
+        self.assertEqual(relaxations.before_superblock(large).of(BASE.having(end=1 << 22)).get("end"), str((1 << 22) + 1 - 65536 - 384))
+        self.assertTrue(relaxations.no_records().of(BASE).records)
+        self.assertEqual(relaxations.misfits().of(BASE).get("misfits"), "8")
+        self.assertEqual(relaxations.bad_rows(7, [2048, 4096]).of(BASE).operands, BASE.having(badrows=7, offsets=2048).operands)
+        self.assertEqual(relaxations.bad_rows(7, [4096]).of(BASE).get("offsets"), "0,2048")
+        self.assertEqual(relaxations.more_offsets([16, 100000]).of(BASE).get("offsets"), "0,16,2048")
+        self.assertEqual((relaxations.delays().of(BASE).get("delays"), relaxations.delays().rows), ("16", False))
+        self.assertIn(",63,", relaxations.more_origins().of(BASE).get("origins"))
+        each = relaxations.offsets_each([0, 2048]).of(BASE)
+        self.assertEqual((each.is_each, each.get("window"), relaxations.offsets_each([0]).slow), (True, "8192", True))
+        self.assertEqual(relaxations.bare(self.plan).of(BASE).out, (0, 1, 2))
+        self.assertEqual(relaxations.group_relaxations(self.plan, True)[0].of(BASE).out, (1,))
+        self.assertEqual(relaxations.alone(self.plan, self.plan.groups[1]).of(BASE).out, (0, 2))
 
     def test_which_go_together(self) -> None:
-        found = {cure.name: cure for cure in cures.in_order(self.plan, self.asked)}
+        found = {relaxation.name: relaxation for relaxation in relaxations.in_order(self.plan, self.asked)}
 
         def go(*names: str) -> bool:
-            return cures.go_together([next(cure for name, cure in found.items() if name.startswith(begin)) for begin in names])
+            return relaxations.go_together([next(relaxation for name, relaxation in found.items() if name.startswith(begin)) for begin in names])
         out, only = "without landmark group", "only landmark group"
         self.assertTrue(go(f"{out} 1", f"{out} 0") and go("half", "8 mismatches") and go("half", "end") and go("end", "delays"))
         for one, other in (("file records", "8 mismatches"), (f"{out} 1", f"{only} 2"), ("badrows", "half"), ("badrows", "end"),
@@ -178,26 +178,26 @@ class OfCures(unittest.TestCase):
             self.assertFalse(go(one, other), (one, other))
 
     def test_choices(self) -> None:
-        found = cures.in_order(self.plan, self.asked)
-        self.assertEqual(cures.choices(found, 0), [()])
-        self.assertEqual(cures.choices(found, 1)[-1][0].slow, True)
-        both = cures.choices(found, 2)
-        self.assertTrue(any(cure.slow for cure in both[-1]) and not any(cure.slow for cure in both[0]))
+        found = relaxations.in_order(self.plan, self.asked)
+        self.assertEqual(relaxations.choices(found, 0), [()])
+        self.assertEqual(relaxations.choices(found, 1)[-1][0].slow, True)
+        both = relaxations.choices(found, 2)
+        self.assertTrue(any(relaxation.slow for relaxation in both[-1]) and not any(relaxation.slow for relaxation in both[0]))
 
-    def test_loosened(self) -> None:
-        request = cures.loosened(BASE, [cures.misfits(), cures.bad_rows(9, [0])])
+    def test_relaxed(self) -> None:
+        request = relaxations.relaxed(BASE, [relaxations.misfits(), relaxations.bad_rows(9, [0])])
         self.assertEqual((request.get("misfits"), request.get("badrows")), ("8", "9"))
 
-    def test_trial(self) -> None:
+    def test_step(self) -> None:
         plan = plan_of(XFS, EXT)
-        trial = Trial(Shape("5", 3), (cures.group_cures(plan, True)[1], cures.misfits()), BASE.having(misfits=8))
-        self.assertEqual(trial.line(), "RAID 5 of 3 disks; relaxed: without landmark group 0 (xfs, 2 landmarks) and 8 mismatches")
-        self.assertEqual((trial.out, trial.lenient, trial.has_bad_rows, trial.is_bare), (frozenset({0}), True, False, False))
-        self.assertEqual(Trial(Shape("5", 3)).line(), "RAID 5 of 3 disks; relaxed: nothing")
-        self.assertTrue(Trial(Shape("5", 3), (cures.bare(plan),), BASE).is_bare)
-        bad = Trial(Shape("5", 3), (), BASE.having(badrows=1))
+        step = Step(Shape("5", 3), (relaxations.group_relaxations(plan, True)[1], relaxations.misfits()), BASE.having(misfits=8))
+        self.assertEqual(step.line(), "RAID 5 of 3 disks; relaxed: without landmark group 0 (xfs, 2 landmarks) and 8 mismatches")
+        self.assertEqual((step.out, step.lenient, step.has_bad_rows, step.is_bare), (frozenset({0}), True, False, False))
+        self.assertEqual(Step(Shape("5", 3)).line(), "RAID 5 of 3 disks; relaxed: nothing")
+        self.assertTrue(Step(Shape("5", 3), (relaxations.bare(plan),), BASE).is_bare)
+        bad = Step(Shape("5", 3), (), BASE.having(badrows=1))
         self.assertEqual((bad.has_bad_rows, bad.lenient), (True, True))
-        self.assertFalse(Trial(Shape("10", 4)).lenient)
+        self.assertFalse(Step(Shape("10", 4)).lenient)
 
 
 class OfAsking(unittest.TestCase):
@@ -218,10 +218,10 @@ class OfAsking(unittest.TestCase):
         shape = Shape("5", 3)
         self.assertEqual(asking.request(shape).number("badrows"), 100)
         self.assertEqual(asking.request(Shape("0", 3)).number("badrows"), 0)
-        self.assertEqual([cure.name for cure in asking.unread_cure(shape, asking.request(shape))], ["badrows 100 from the maps"])
-        self.assertEqual(asking.unread_cure(shape, BASE.having(badrows=200)), ())
-        self.assertEqual(len(asking.unread_cure(Shape("10", 4), None)), 1)
-        self.assertEqual(asking.unread_cure(Shape("0", 4), None), ())
+        self.assertEqual([relaxation.name for relaxation in asking.unread_relaxation(shape, asking.request(shape))], ["badrows 100 from the maps"])
+        self.assertEqual(asking.unread_relaxation(shape, BASE.having(badrows=200)), ())
+        self.assertEqual(len(asking.unread_relaxation(Shape("10", 4), None)), 1)
+        self.assertEqual(asking.unread_relaxation(Shape("0", 4), None), ())
         self.assertEqual(Asking(evidence(bad=30000), OPTIONS).request(shape).number("badrows"), 0)
         few = Asking(evidence(bad=100, filled={0: 90000, 2048: 200}), OPTIONS)
         self.assertEqual((few.tells(2048), few.tells(0)), (False, True))
@@ -237,24 +237,24 @@ class OfAsking(unittest.TestCase):
         self.assertEqual(asking.most_bad(Shape("6", 3)), 100000 // 64)
         self.assertEqual(Asking(evidence(filled={0: 16}), OPTIONS).most_bad(Shape("6", 3)), 128)
 
-    def test_cures_that_make_sense(self) -> None:
+    def test_relaxations_that_make_sense(self) -> None:
         asking = Asking(evidence(), OPTIONS)
 
-        def families(shape: Shape, every: bool = False, quick: bool = False) -> set[Family]:
-            return {cure.family for cure in asking.cures(shape, every, quick)}
-        self.assertNotIn(Family.BAD_ROWS, families(Shape("0", 3)))
-        self.assertNotIn(Family.WINDOW, families(Shape("0", 3)))
-        self.assertIn(Family.BAD_ROWS, families(Shape("5", 3)))
-        self.assertNotIn(Family.BAD_ROWS, families(Shape("6", 4, 1), quick=True))
-        self.assertIn(Family.BAD_ROWS, families(Shape("6", 4, 1)))
-        self.assertFalse(any(cure.slow for cure in asking.cures(Shape("5", 3), quick=True) + asking.cures(Shape("5", 2, 0, 1))))
-        self.assertTrue(any(cure.slow for cure in asking.cures(Shape("5", 3))))
-        self.assertFalse(any(cure.kind for cure in asking.cures(Shape("5", 3))))
-        self.assertTrue(any(cure.kind for cure in Asking(evidence(groups=(NTFS,)), OPTIONS).cures(Shape("5", 3))))
-        self.assertNotIn(Family.ORIGINS, {cure.family for cure in Asking(evidence(groups=()), OPTIONS).cures(Shape("5", 3))})
+        def image_groups(shape: Shape, every: bool = False, quick: bool = False) -> set[RelaxationKind]:
+            return {relaxation.relaxes for relaxation in asking.relaxations(shape, every, quick)}
+        self.assertNotIn(RelaxationKind.BAD_ROWS, image_groups(Shape("0", 3)))
+        self.assertNotIn(RelaxationKind.WINDOW, image_groups(Shape("0", 3)))
+        self.assertIn(RelaxationKind.BAD_ROWS, image_groups(Shape("5", 3)))
+        self.assertNotIn(RelaxationKind.BAD_ROWS, image_groups(Shape("6", 4, 1), quick=True))
+        self.assertIn(RelaxationKind.BAD_ROWS, image_groups(Shape("6", 4, 1)))
+        self.assertFalse(any(it.slow for it in asking.relaxations(Shape("5", 3), quick=True) + asking.relaxations(Shape("5", 2, 0, 1))))
+        self.assertTrue(any(relaxation.slow for relaxation in asking.relaxations(Shape("5", 3))))
+        self.assertFalse(any(relaxation.kind for relaxation in asking.relaxations(Shape("5", 3))))
+        self.assertTrue(any(relaxation.kind for relaxation in Asking(evidence(groups=(NTFS,)), OPTIONS).relaxations(Shape("5", 3))))
+        self.assertNotIn(RelaxationKind.ORIGINS, {it.relaxes for it in Asking(evidence(groups=()), OPTIONS).relaxations(Shape("5", 3))})
         # Parity may stay where there is some, also where as many disks are lost as the level bears, and soon tells.
         shapes = Shape("0", 3), Shape("5", 3), Shape("5", 4, 1), Shape("6", 5, 2), Shape("5,6", 4)
-        self.assertEqual([Family.DELAYS in families(shape, quick=True) for shape in shapes], [False, True, True, True, True])
+        self.assertEqual([RelaxationKind.DELAYS in image_groups(shape, quick=True) for shape in shapes], [False, True, True, True, True])
 
     def test_unlike_offsets(self) -> None:
         self.assertEqual(Asking(evidence(), OPTIONS).unlike_offsets(), [[2048, 4096], [0, 2048]])
@@ -302,7 +302,7 @@ class Asked(unittest.TestCase):
         self.assertEqual(questions.first("a", "x"), First("", True))
 
     def test_time_of_a_question(self) -> None:
-        """It is a part of that of a trial, and five seconds at least, and no more than that of the trial that is at work."""
+        """It is a part of that of a step, and five seconds at least, and no more than that of the step that is at work."""
         for seconds, work, part in ((60, 60, 10), (60, 5, 5), (9, 9, 5), (3, 3, 3)):
             questions, standin, late = self.questions(lambda *_: Answer(None))
             questions.program.seconds = work
@@ -379,18 +379,18 @@ class Asked(unittest.TestCase):
     def test_needing(self) -> None:
         allows, _, _ = self.questions(lambda *_: put("1 5:la:none:8:0:0,1,2\nnext 2 of 9\n"))
         refuses, _, _ = self.questions(lambda *_: put("next 9 of 9\n"))
-        end = cures.before_superblock(plan_of(XFS))
+        end = relaxations.before_superblock(plan_of(XFS))
         for questions, found in ((allows, []), (refuses, [0, 2048])):
             request = end.of(questions.asking.request(Shape("5", 3)))
             self.assertEqual(questions.needing(Shape("5", 3), [end], request), found)
-        half = cures.half_window(plan_of(XFS))
+        half = relaxations.half_window(plan_of(XFS))
         self.assertEqual(allows.needing(Shape("5", 3), [half], half.of(allows.asking.request(Shape("5", 3)))), [0, 2048])
         self.assertEqual((allows.is_unsound(Shape("5", 3)), refuses.is_unsound(Shape("5", 3))), (False, True))
 
     def test_what_parity_allows_with_less(self) -> None:
         """Where each image has an offset of its own any set that parity allows with less is enough; where it allows none all offsets stay, also those
         that are none of the hints'."""
-        end = cures.before_superblock(plan_of(XFS))
+        end = relaxations.before_superblock(plan_of(XFS))
         for offsets, mode, first, wanted in (((0, 2048), "common", 2048, [0]), ((0, 2048), "each", 2048, []), ((), "common", None, [0, 2048]),
                                              ((), "common", 2048, []), ((), "each", None, [0, 2048])):
             questions, _, _ = self.questions(lambda *_: put(""), evidence(data=((2, 2),), offsets=offsets))
@@ -434,13 +434,13 @@ class Asked(unittest.TestCase):
         self.assertEqual([each.first_allowed(it, Shape("6", 3)) for it in (request, request.having(mode="each"))], [2048, 0])
 
     def test_bad_rows_are_no_less_where_hints_speak(self) -> None:
-        """Parity that holds once many rows may be bad says nothing against loosening the end besides; of another shape it is enough by itself."""
+        """Parity that holds once many rows may be bad says nothing against relaxing the end besides; of another shape it is enough by itself."""
         def answer(_words: list[str], text: str) -> Answer:
             return put("next 9 of 9\n" if "badrows 0\n" in text else "1 5:la:none:8:0:0,1,2\nnext 2 of 9\n")
         questions, _, _ = self.questions(answer)
-        chosen = [cures.bad_rows(500, (0, 2048)), cures.before_superblock(plan_of(XFS))]
+        chosen = [relaxations.bad_rows(500, (0, 2048)), relaxations.before_superblock(plan_of(XFS))]
         for shape, offsets in ((Shape("5", 3), [0, 2048]), (Shape("6", 3), [])):
-            self.assertEqual(questions.needing(shape, chosen, cures.loosened(questions.asking.request(shape), chosen)), offsets)
+            self.assertEqual(questions.needing(shape, chosen, relaxations.relaxed(questions.asking.request(shape), chosen)), offsets)
 
     def test_most_fits_of_a_group(self) -> None:
         """Found by halving: the most with which a set passes, with bounds of its own for that group alone."""
@@ -494,7 +494,7 @@ class Asked(unittest.TestCase):
     def test_what_is_refused_asks_for_nothing_less(self) -> None:
         """Where a question is refused all offsets stay."""
         questions, _, _ = self.questions(lambda *_: put("", 5, "reraid: the product has more than 18446744073709551615 sets"))
-        end = cures.before_superblock(plan_of(XFS))
+        end = relaxations.before_superblock(plan_of(XFS))
         self.assertEqual(questions.needing(Shape("5", 3), [end], end.of(questions.asking.request(Shape("5", 3)))), [0, 2048])
 
     def test_far_before(self) -> None:
@@ -506,114 +506,114 @@ class Asked(unittest.TestCase):
             self.assertFalse(questions.far_before(0, 2048, Shape("5", 3)))
 
 
-class Hunts(InFolder):
-    def hunt(self, answer: Reply, groups: tuple[Marked, ...] = (XFS, EXT), pairs: Pairs | None = None) -> tuple[Hunt, Standin]:
-        """A hunt over three images of which reraid says this."""
+class Scopes(InFolder):
+    def scope(self, answer: Reply, groups: tuple[Marked, ...] = (XFS, EXT), pairs: Pairs | None = None) -> tuple[Scope, Standin]:
+        """A scope over three images of which reraid says this."""
         names = [self.file(f"{k}.img", b"x" * 8000 * SECTOR) for k in range(3)]
         text = plan_of(*groups, lengths=(8000,) * 3).text()
         standin = Standin(("reraid survey", put(text)), ("reraid list", answer))
         seen = [Image(name, k, 8000) for k, name in enumerate(names)]
-        return Hunt(Options(tuple(names)), standin, seen, nobody, pairs), standin
+        return Scope(Options(tuple(names)), standin, seen, nobody, pairs), standin
 
-    def test_what_is_asked_in_each_trial(self) -> None:
-        """What is known stands in each request, also in those of cures."""
-        hunt, standin = self.hunt(lambda *_: put("next 9 of 9\n"))
-        known = Hunt(Options(hunt.program.names), standin, hunt.evidence.images, nobody, asked={"chunks": "64", "window": 500})
+    def test_what_is_asked_in_each_step(self) -> None:
+        """What is known stands in each request, also in those of relaxations."""
+        scope, standin = self.scope(lambda *_: put("next 9 of 9\n"))
+        known = Scope(Options(scope.program.names), standin, scope.evidence.images, nobody, asked={"chunks": "64", "window": 500})
         for count in (0, 1):
-            _, request = next(known.ways(Shape("0", 3), Step((), count)))
+            _, request = next(known.ways(Shape("0", 3), Stage((), count)))
             self.assertEqual((request.get("chunks"), request.get("window")), ("64", "500"))
 
     def test_listed_once(self) -> None:
-        hunt, _ = self.hunt(lambda *_: put("next 9 of 9\n"))
-        request = hunt.asking.request(Shape("5", 3))
-        self.assertIsNotNone(hunt.to_list(Shape("5", 3), request))
-        self.assertIsNone(hunt.to_list(Shape("5", 3), request))
+        scope, _ = self.scope(lambda *_: put("next 9 of 9\n"))
+        request = scope.asking.request(Shape("5", 3))
+        self.assertIsNotNone(scope.to_list(Shape("5", 3), request))
+        self.assertIsNone(scope.to_list(Shape("5", 3), request))
 
     def test_nothing_that_rules_sets_out(self) -> None:
-        hunt, _ = self.hunt(lambda *_: put(""))
-        bare = hunt.asking.bare(Shape("5,6", 4, 1))
-        self.assertIsNone(hunt.to_list(Shape("5,6", 4, 1), bare))
-        last = hunt.to_list(Shape("5,6", 4, 1), bare, last=True)
+        scope, _ = self.scope(lambda *_: put(""))
+        bare = scope.asking.bare(Shape("5,6", 4, 1))
+        self.assertIsNone(scope.to_list(Shape("5,6", 4, 1), bare))
+        last = scope.to_list(Shape("5,6", 4, 1), bare, last=True)
         self.assertEqual(last and last.values["levels"], "5,6")
-        none, _ = self.hunt(lambda *_: put(""), ())
+        none, _ = self.scope(lambda *_: put(""), ())
         self.assertIsNone(none.to_list(Shape("0", 3), none.asking.request(Shape("0", 3))))
         plan = none.to_list(Shape("5,6", 4, 1), none.asking.request(Shape("5,6", 4, 1)))
         self.assertEqual(plan and plan.values["levels"], "6")
 
     def test_a_step_is_neither_hasty_nor_asks_for_all(self) -> None:
-        """A step has all cures but those for what is mostly wrong, where nothing else is said."""
-        step = Step((Shape("5", 4, 1),), 1)
-        hunt, _ = self.hunt(lambda *_: put("next 9 of 9\n"))
-        names = [cure.name for cure in hunt.asking.cures(step.shapes[0], step.every, step.quick)]
-        self.assertEqual((any("each image its own" in name for name in names), step.every), (True, False))
-        self.assertFalse(any("each image its own" in cure.name for cure in hunt.asking.cures(step.shapes[0], quick=True)))
+        """A stage has all relaxations but those for what is mostly wrong, where nothing else is said."""
+        stage = Stage((Shape("5", 4, 1),), 1)
+        scope, _ = self.scope(lambda *_: put("next 9 of 9\n"))
+        names = [relaxation.name for relaxation in scope.asking.relaxations(stage.shapes[0], stage.every, stage.quick)]
+        self.assertEqual((any("each image its own" in name for name in names), stage.every), (True, False))
+        self.assertFalse(any("each image its own" in relaxation.name for relaxation in scope.asking.relaxations(stage.shapes[0], quick=True)))
 
     def test_passed_over_is_counted(self) -> None:
-        hunt, _ = self.hunt(lambda *_: put("next 9 of 9\n"))
-        plan = hunt.to_list(Shape("5", 3), hunt.asking.request(Shape("5", 3)))
+        scope, _ = self.scope(lambda *_: put("next 9 of 9\n"))
+        plan = scope.to_list(Shape("5", 3), scope.asking.request(Shape("5", 3)))
         assert plan
-        self.assertEqual((hunt.may_list(plan, Shape("5", 3)), hunt.passed_over), (False, 1))
+        self.assertEqual((scope.may_list(plan, Shape("5", 3)), scope.passed_over), (False, 1))
 
     def test_ways(self) -> None:
-        hunt, _ = self.hunt(lambda *_: put("next 9 of 9\n"))
-        self.assertEqual([chosen for chosen, _ in hunt.ways(Shape("0", 3), Step((), 0))], [()])
-        names = [chosen[0].name for chosen, _ in hunt.ways(Shape("5", 3), Step((), 1))]
+        scope, _ = self.scope(lambda *_: put("next 9 of 9\n"))
+        self.assertEqual([chosen for chosen, _ in scope.ways(Shape("0", 3), Stage((), 0))], [()])
+        names = [chosen[0].name for chosen, _ in scope.ways(Shape("5", 3), Stage((), 1))]
         self.assertIn("end before a superblock", names)
-        allows, _ = self.hunt(lambda *_: put("1 5:la:none:8:0:0,1,2\nnext 2 of 9\n"))
-        names = [chosen[0].name for chosen, _ in allows.ways(Shape("5", 3), Step((), 1))]
+        allows, _ = self.scope(lambda *_: put("1 5:la:none:8:0:0,1,2\nnext 2 of 9\n"))
+        names = [chosen[0].name for chosen, _ in allows.ways(Shape("5", 3), Stage((), 1))]
         self.assertNotIn("end before a superblock", names)
         self.assertIn("8 mismatches", names)
-        self.assertIn("end before a superblock", [chosen[0].name for chosen, _ in allows.ways(Shape("5", 3), Step((), 1, every=True))])
+        self.assertIn("end before a superblock", [chosen[0].name for chosen, _ in allows.ways(Shape("5", 3), Stage((), 1, every=True))])
 
-    def test_ways_of_one_family(self) -> None:
+    def test_ways_of_one_kind(self) -> None:
         """Of parity that stays alone: one way where there is parity, at any offset, and none else. Of what NTFS needs: where there is one."""
-        hunt, _ = self.hunt(lambda *_: put("next 9 of 9\n"))
+        scope, _ = self.scope(lambda *_: put("next 9 of 9\n"))
         none: list[str] = []
         for shape, wanted in ((Shape("5", 4, 1), ["delays 16"]), (Shape("6", 3), ["delays 16"]), (Shape("0", 3), none)):
-            with mock.patch.object(hunt.asking, "request", wraps=hunt.asking.request) as asked:
-                found = list(hunt.ways(shape, delayed(shape)))
-            self.assertEqual([cure.name for chosen, _ in found for cure in chosen], wanted)
+            with mock.patch.object(scope.asking, "request", wraps=scope.asking.request) as asked:
+                found = list(scope.ways(shape, delayed(shape)))
+            self.assertEqual([relaxation.name for chosen, _ in found for relaxation in chosen], wanted)
             self.assertEqual([request.get("delays") for _, request in found], ["16"] * len(wanted))
             self.assertEqual(asked.call_args_list[0][0], (shape, True))
-        for plan, wanted in ((plan_of(NTFS), ["file records of number 0 left out"]), (hunt.plan, none)):
-            with mock.patch.object(hunt.asking, "evidence", dataclasses.replace(hunt.evidence, plan=plan)):
-                found = list(hunt.ways(Shape("0", 3), of_kinds(Shape("0", 3))))
-            self.assertEqual([cure.name for chosen, _ in found for cure in chosen], wanted)
+        for plan, wanted in ((plan_of(NTFS), ["file records of number 0 left out"]), (scope.plan, none)):
+            with mock.patch.object(scope.asking, "evidence", dataclasses.replace(scope.evidence, plan=plan)):
+                found = list(scope.ways(Shape("0", 3), of_kinds(Shape("0", 3))))
+            self.assertEqual([relaxation.name for chosen, _ in found for relaxation in chosen], wanted)
 
     def test_ways_without_parity(self) -> None:
-        """Where parity tells nothing it is not asked which offsets need a cure."""
-        hunt, standin = self.hunt(lambda *_: put("next 9 of 9\n"))
-        found = [chosen[0].family for chosen, _ in hunt.ways(Shape("0", 3), Step((), 1))]
-        self.assertEqual((Family.END in found, standin.count("reraid list")), (True, 0))
+        """Where parity tells nothing it is not asked which offsets need a relaxation."""
+        scope, standin = self.scope(lambda *_: put("next 9 of 9\n"))
+        found = [chosen[0].relaxes for chosen, _ in scope.ways(Shape("0", 3), Stage((), 1))]
+        self.assertEqual((RelaxationKind.END in found, standin.count("reraid list")), (True, 0))
 
     def test_listing_is_told(self) -> None:
-        hunt, standin = self.hunt(lambda words, _: put("", 6, "reraid: cursor 1 is past 0") if f"from={LAST}" in words else put("next 9 of 9\n"))
-        request = dataclasses.replace(hunt.asking.request(Shape("6", 3)), out=(1,))
-        plan = hunt.to_list(Shape("6", 3), request)
+        scope, standin = self.scope(lambda words, _: put("", 6, "reraid: cursor 1 is past 0") if f"from={LAST}" in words else put("next 9 of 9\n"))
+        request = dataclasses.replace(scope.asking.request(Shape("6", 3)), out=(1,))
+        plan = scope.to_list(Shape("6", 3), request)
         assert plan
-        self.assertEqual(hunt.listing(Shape("6", 3), request, plan).total, 0)
+        self.assertEqual(scope.listing(Shape("6", 3), request, plan).total, 0)
         self.assertRegex(standin.told[0], r"^reraid survey .* \| awk .*n==2.* \| reraid list size=20000 -- ")
 
     def test_listed_again_where_its_time_was_up(self) -> None:
         def answer(words: list[str], _: str) -> Answer:
             return put("", 6, "reraid: cursor 1 is past 9") if f"from={LAST}" in words else put("1 5:la:none:8:0:0,1,2\n", None)
         for most, again in ((20000, True), (1, False)):
-            hunt, _ = self.hunt(answer)
-            shape, request = Shape("5", 3), hunt.asking.request(Shape("5", 3))
-            plan = hunt.to_list(shape, request)
+            scope, _ = self.scope(answer)
+            shape, request = Shape("5", 3), scope.asking.request(Shape("5", 3))
+            plan = scope.to_list(shape, request)
             assert plan
-            with mock.patch("reraid_try.policy.hunt.MOST_LINES", most):
-                self.assertFalse(hunt.listing(shape, request, plan).whole)
-            self.assertEqual((hunt.cut_short, hunt.to_list(shape, request)), ({plan.text()} if again else set(), None))
-            hunt.ask_again()
-            self.assertEqual((hunt.cut_short, hunt.to_list(shape, request)), (set(), plan if again else None))
+            with mock.patch("reraid_try.policy.scope.MAX_LINES", most):
+                self.assertFalse(scope.listing(shape, request, plan).whole)
+            self.assertEqual((scope.cut_short, scope.to_list(shape, request)), ({plan.text()} if again else set(), None))
+            scope.ask_again()
+            self.assertEqual((scope.cut_short, scope.to_list(shape, request)), (set(), plan if again else None))
 
     def test_offsets_with_little_behind_them(self) -> None:
-        """They are asked for with nothing loosened, and where every one is."""
-        hunt, _ = self.hunt(lambda *_: put("next 9 of 9\n"))
+        """They are asked for with nothing relaxed, and where every one is."""
+        scope, _ = self.scope(lambda *_: put("next 9 of 9\n"))
         for count, every, wanted in ((0, False, True), (1, False, False), (1, True, True)):
-            with mock.patch.object(hunt.asking, "request", wraps=hunt.asking.request) as asked:
-                next(hunt.ways(Shape("0", 3), Step((), count, every)))
+            with mock.patch.object(scope.asking, "request", wraps=scope.asking.request) as asked:
+                next(scope.ways(Shape("0", 3), Stage((), count, every)))
             self.assertEqual(asked.call_args_list[0][0], (Shape("0", 3), wanted))
 
     def test_zeros_are_asked_of_many_sets(self) -> None:
@@ -624,12 +624,12 @@ class Hunts(InFolder):
 
             def answer(words: list[str], _: str, listed: str = listed) -> Answer:
                 return put("", 6, "reraid: cursor 1 is past 84") if f"from={LAST}" in words else put(listed + "next 84 of 84\n")
-            hunt, _ = self.hunt(answer)
+            scope, _ = self.scope(answer)
             places = mock.Mock(allowed=lambda words: [it.offset == 0 for it in words])
-            hunt.ask_places = ask = mock.Mock(return_value=places)
-            hunt.places = {Shape("5", 3): places} if known else {}
+            scope.ask_places = ask = mock.Mock(return_value=places)
+            scope.places = {Shape("5", 3): places} if known else {}
             for _ in range(2):
-                found = hunt.listing(Shape("5", 3), BASE, hunt.plan)
+                found = scope.listing(Shape("5", 3), BASE, scope.plan)
                 self.assertEqual(len(found.sets), allowed)
             self.assertEqual(ask.call_args_list, [mock.call(Shape("5", 3))] * asked)
             left_out = count - allowed
@@ -640,42 +640,43 @@ class Hunts(InFolder):
         def answer(words: list[str], _: str) -> Answer:
             late = Answer(None, b"1 5:la:none:8:0:0,1,2\n2 5:la:none:8:8:0,1,2\n")
             return put("", 6, "reraid: cursor 1 is past 84") if f"from={LAST}" in words else late
-        hunt, _ = self.hunt(answer)
-        hunt.places = {Shape("5", 3): mock.Mock(allowed=lambda words: [it.offset == 0 for it in words])}
+        scope, _ = self.scope(answer)
+        scope.places = {Shape("5", 3): mock.Mock(allowed=lambda words: [it.offset == 0 for it in words])}
         note = "timed out after 60 s, before all were tested; 1 more contradict rows of zeros"
-        self.assertEqual(hunt.listing(Shape("5", 3), BASE, hunt.plan).note, note)
+        self.assertEqual(scope.listing(Shape("5", 3), BASE, scope.plan).note, note)
 
     def test_words(self) -> None:
-        hunt, _ = self.hunt(lambda *_: put(""))
-        hunt.evidence = dataclasses.replace(hunt.evidence, images=tuple(dataclasses.replace(it, number=it.number + 4) for it in hunt.evidence.images))
-        self.assertEqual([hunt.word(text).text for text in ("5:la:none:8:7+0+7:2,0,1", "5:la:none:8:7:2,-,1")],
+        scope, _ = self.scope(lambda *_: put(""))
+        images = tuple(dataclasses.replace(it, number=it.number + 4) for it in scope.evidence.images)
+        scope.evidence = dataclasses.replace(scope.evidence, images=images)
+        self.assertEqual([scope.word(text).text for text in ("5:la:none:8:7+0+7:2,0,1", "5:la:none:8:7:2,-,1")],
                          ["5:la:none:8:7+0+7:2,0,1", "5:la:none:8:7:6,-,5"])
-        hunt, _ = self.hunt(lambda *_: put(""))
-        self.assertEqual(hunt.word("5:la:none:8:7+7+7:0,1,2").text, "5:la:none:8:7:0,1,2")
-        pairs, _ = self.hunt(lambda *_: put(""), pairs=Pairs(((5,), (), (4,)), (2048,)))
+        scope, _ = self.scope(lambda *_: put(""))
+        self.assertEqual(scope.word("5:la:none:8:7+7+7:0,1,2").text, "5:la:none:8:7:0,1,2")
+        pairs, _ = self.scope(lambda *_: put(""), pairs=Pairs(((5,), (), (4,)), (2048,)))
         self.assertEqual(pairs.word("0:plain:none:8:2048:2,0,1").text, "near2:8:2048:2,4,0,5,1,-")
-        threes, _ = self.hunt(lambda *_: put(""), pairs=Pairs(((5, 6), (), (4,)), (2048,), copies=3))
+        threes, _ = self.scope(lambda *_: put(""), pairs=Pairs(((5, 6), (), (4,)), (2048,), copies=3))
         self.assertEqual(threes.word("0:plain:none:8:2048:2,0,1").text, "near3:8:2048:2,4,-,0,5,6,1,-,-")
 
     def test_checked_by_all_groups(self) -> None:
-        hunt, _ = self.hunt(lambda *_: put(""))
-        plan = hunt.checked_by(Trial(Shape("5", 3), (), hunt.asking.bare(Shape("5", 3))))
+        scope, _ = self.scope(lambda *_: put(""))
+        plan = scope.checked_by(Step(Shape("5", 3), (), scope.asking.bare(Shape("5", 3))))
         self.assertEqual(plan and len(plan.groups), 2)
-        self.assertIsNone(hunt.checked_by(Trial(Shape("10", 4))))
+        self.assertIsNone(scope.checked_by(Step(Shape("10", 4))))
 
     def test_checked_over_the_whole_window(self) -> None:
         """What was listed by half of the window is checked over all of it."""
-        hunt, _ = self.hunt(lambda *_: put(""))
-        half = cures.half_window(hunt.plan)
-        request = half.of(hunt.asking.request(Shape("5", 3)))
-        plan = hunt.checked_by(Trial(Shape("5", 3), (half,), request))
-        self.assertEqual((2 * request.number("window"), plan and int(plan.values["window"])), (hunt.evidence.window, hunt.evidence.window))
+        scope, _ = self.scope(lambda *_: put(""))
+        half = relaxations.half_window(scope.plan)
+        request = half.of(scope.asking.request(Shape("5", 3)))
+        plan = scope.checked_by(Step(Shape("5", 3), (half,), request))
+        self.assertEqual((2 * request.number("window"), plan and int(plan.values["window"])), (scope.evidence.window, scope.evidence.window))
 
     def test_mirrors(self) -> None:
-        hunt, _ = self.hunt(lambda *_: put(""))
+        scope, _ = self.scope(lambda *_: put(""))
         standin = Standin(("reraid mirrors", put("5 near2:8:2048:0,1,2,-\n7 near2:8:4096:1,0,-,2\nnext 9 of 9\n")))
-        hunt.program.commands = standin
-        listing = Mirrors(hunt, standin).listing(TWO)
+        scope.program.commands = standin
+        listing = Mirrors(scope, standin).listing(TWO)
         self.assertEqual((len(listing.sets), listing.total, listing.whole), (2, 9, True))
         self.assertEqual(standin.count("reraid mirrors"), 1)
         found = groupings(listing.sets)
@@ -720,17 +721,17 @@ class Hunts(InFolder):
         self.assertEqual(told(32673), [])
 
     def test_far_copies_end_where_their_distance_is_told(self) -> None:
-        hunt, _ = self.hunt(lambda *_: put(""))
+        scope, _ = self.scope(lambda *_: put(""))
         standin = Standin(("reraid mirrors", put("next 9 of 9\n")))
-        hunt.program.commands = standin
-        Mirrors(hunt, standin).listing(Copied((Copying("far", 2),), 3, 0, (8,), 67392, (2048,)))
+        scope.program.commands = standin
+        Mirrors(scope, standin).listing(Copied((Copying("far", 2),), 3, 0, (8,), 67392, (2048,)))
         words = standin.asked[0][0]
         self.assertTrue({"layouts=far2", "end=67392", "offsets=2048", "chunks=8"} <= set(words))
 
     def test_mirrors_that_were_late(self) -> None:
-        hunt, _ = self.hunt(lambda *_: put(""))
-        hunt.program.commands = Standin(("reraid mirrors", put("5 near2:8:2048:0,1,2,-\n", None)))
-        listing = Mirrors(hunt, hunt.program.commands).listing(TWO)
+        scope, _ = self.scope(lambda *_: put(""))
+        scope.program.commands = Standin(("reraid mirrors", put("5 near2:8:2048:0,1,2,-\n", None)))
+        listing = Mirrors(scope, scope.program.commands).listing(TWO)
         self.assertEqual((len(listing.sets), listing.whole, listing.note), (1, False, "timed out after 60 s, before all were tested"))
 
     def test_pairings_of_none(self) -> None:

@@ -18,11 +18,11 @@ from reraid_try.evidence.readoff import Fit, Form, Peak, Proposal, Sought, Vote
 from reraid_try.options import Options
 from reraid_try.policy import proposed
 from reraid_try.policy.evident import Evident
-from reraid_try.policy.hunt import Hunt
-from reraid_try.policy.plain import Aim, Span
+from reraid_try.policy.scope import Scope
+from reraid_try.policy.plain import Target, Span
 from reraid_try.policy.proposed import Query
 from reraid_try.policy.shapes import Shape
-from reraid_try.policy.trials import Trial
+from reraid_try.policy.steps import Step
 from reraid_try.units import SECTOR
 from tests.standin import InFolder, Standin, Told, plan_of, put
 
@@ -167,14 +167,14 @@ def marked(*counts: int) -> Plan:
 
 
 class Queries(InFolder):
-    def hunt(self, plan: Plan, listed: Answer) -> Hunt:
-        """A hunt over three images with such a survey, of which a listing gives this."""
+    def scope(self, plan: Plan, listed: Answer) -> Scope:
+        """A scope over three images with such a survey, of which a listing gives this."""
         names = [self.file(f"{k}.img", b"x" * 8000 * SECTOR) for k in range(3)]
 
         def answer(words: list[str], _: str) -> Answer:
             return put("next 9 of 9\n") if f"from={LAST}" in words else listed
         self.standin = Standin(("reraid survey", put(plan.text())), ("reraid list", answer))
-        return Hunt(Options(tuple(names)), self.standin, [Image(name, k, 8000) for k, name in enumerate(names)], lambda *_: None)
+        return Scope(Options(tuple(names)), self.standin, [Image(name, k, 8000) for k, name in enumerate(names)], lambda *_: None)
 
     def test_votes(self) -> None:
         """Those of the kinds that are asked for, of groups with twelve landmarks at least; a landmark that lies twice has two."""
@@ -206,29 +206,29 @@ class Queries(InFolder):
         self.assertEqual([plan.values[name] for name in ("levels", "chunks", "offsets", "origins", "delays")],
                          ["5", "128", "2048,4096", "0,2048,9216", "16"])
 
-    def attempted(self, listed: Answer, found: Sequence[Proposal] | Exception) -> tuple[bool, list[str], list[tuple[Trial, list[str]]]]:
-        """Whether the search is at its end, what was said, and the trials with the sets that were tested."""
-        report, tested = Told(), list[tuple[Trial, list[str]]]()
+    def attempted(self, listed: Answer, found: Sequence[Proposal] | Exception) -> tuple[bool, list[str], list[tuple[Step, list[str]]]]:
+        """Whether the search is at its end, what was said, and the steps with the sets that were tested."""
+        report, tested = Told(), list[tuple[Step, list[str]]]()
 
-        def take(_hunt: Hunt, trial: Trial, sets: Any, words_of: Any) -> bool:
-            tested.append((trial, [words_of(it)[1].text for it in sets]))
+        def take(_scope: Scope, step: Step, sets: Any, words_of: Any) -> bool:
+            tested.append((step, [words_of(it)[1].text for it in sets]))
             return True
-        search: Any = types.SimpleNamespace(report=report, why="before", take=take, say_trial=lambda _hunt, trial, _listing: trial,
+        search: Any = types.SimpleNamespace(report=report, why="before", take=take, say_step=lambda _scope, step, _listing: step,
                                             say_refused=lambda error: report.put(str(error)))
         with mock.patch.object(readoff, "read", side_effect=[found]):
-            done = proposed.attempt(search, self.hunt(marked(70), listed), SHAPES, ["xfs5"])
+            done = proposed.attempt(search, self.scope(marked(70), listed), SHAPES, ["xfs5"])
         self.assertEqual(search.why, "before")
         return done, report.lines, tested
 
-    def test_trial(self) -> None:
+    def test_step(self) -> None:
         """What is listed is tested, with the reason by its first proposal; a listing with too many sets, or that is cut short, says nothing."""
         found = [proposal("5", 4, Fit(1, 64, 2048, 70))]
         rows = "".join(f"{rank} 5:ls:none:128:2048:2,-,0,1\n" for rank in range(65))
         done, said, tested = self.attempted(put("0 5:ls:none:128:2048:2,-,0,1\nnext 9 of 9\n"), found)
         self.assertEqual((done, said), (True, ["  read off inodes of an XFS: 64 of 70 match 5:ls:none:128:2048:2,-,0,1, the next layout 41"]))
-        (trial, words), = tested
+        (step, words), = tested
         wanted = "RAID 5 of 4 disks, 1 missing", ["5:ls:none:128:2048:2,-,0,1"], frozenset({0, 1})
-        self.assertEqual((trial.shape.line(), words, trial.out), wanted)
+        self.assertEqual((step.shape.line(), words, step.out), wanted)
         self.assertEqual(self.attempted(put(rows + "next 9 of 9\n"), found)[::2], (False, []))
         self.assertEqual(self.attempted(put("next 9 of 9\n"), [])[::2], (False, []))
 
@@ -238,17 +238,17 @@ class Queries(InFolder):
 
 
 class Asked(unittest.TestCase):
-    def test_of_which_aims(self) -> None:
+    def test_of_which_targets(self) -> None:
         """Of those with shapes and one offset for all images, if a superblock was seen whose kind the program knows."""
-        plain, each = Aim((0, 1), Span(0, 9), "why", SHAPES), Aim((0, 1), Span(0, 9), "why", SHAPES, (("mode", "each"),))
-        for aim, kinds, group, asked in ((plain, ("xfs5",), "xfs", 1), (each, ("xfs5",), "xfs", 0), (plain, (), "xfs", 0),
-                                         (plain, ("xfs5",), "ext", 0), (Aim((0, 1), Span(0, 9), "why", copied=True), ("xfs5",), "xfs", 0)):
+        plain, each = Target((0, 1), Span(0, 9), "why", SHAPES), Target((0, 1), Span(0, 9), "why", SHAPES, (("mode", "each"),))
+        for target, kinds, group, asked in ((plain, ("xfs5",), "xfs", 1), (each, ("xfs5",), "xfs", 0), (plain, (), "xfs", 0),
+                                            (plain, ("xfs5",), "ext", 0), (Target((0, 1), Span(0, 9), "why", copied=True), ("xfs5",), "xfs", 0)):
             search: Any = types.SimpleNamespace(options=Options(("a",)), tested=[])
-            hunt: Any = types.SimpleNamespace(plan=types.SimpleNamespace(groups=[types.SimpleNamespace(kind=group)]))
+            scope: Any = types.SimpleNamespace(plan=types.SimpleNamespace(groups=[types.SimpleNamespace(kind=group)]))
             it = Evident(search)
             it.__dict__["later_kinds"] = kinds
             with mock.patch.object(proposed, "attempt", return_value=True) as attempt:
-                self.assertEqual((it.read_off(hunt, aim, 0), attempt.call_count), (bool(asked), asked))
+                self.assertEqual((it.read_off(scope, target, 0), attempt.call_count), (bool(asked), asked))
 
 
 if __name__ == "__main__":

@@ -4,16 +4,16 @@ import dataclasses
 import random
 import unittest
 
-from reraid_try.evidence import families, relations
+from reraid_try.evidence import image_groups, relations
 
 from . import rows
 
 NUMBER = 400
 
 
-def told(made: list[rows.Row], step: int = 1) -> list[families.Family]:
-    """The families of some rows."""
-    return families.families(relations.read(rows.text(made, 2048, step), step), range(len(made[0])))
+def told(made: list[rows.Row], step: int = 1) -> list[image_groups.ImageGroup]:
+    """The image groups of some rows."""
+    return image_groups.image_groups(relations.read(rows.text(made, 2048, step), step), range(len(made[0])))
 
 
 class Lines(unittest.TestCase):
@@ -75,7 +75,7 @@ class Lines(unittest.TestCase):
         self.assertEqual(rows.table([*data, p, q]), ([], {3: {0: 1, 1: 1, 2: 1}, 4: {0: 1, 1: 2, 2: 4}}))
 
 
-class Families(unittest.TestCase):
+class ImageGroups(unittest.TestCase):
     """What the rows of arrays tell."""
 
     def setUp(self) -> None:
@@ -106,7 +106,7 @@ class Families(unittest.TestCase):
         self.assertEqual((found.images, found.level, found.parity, found.lost, found.members), ((0, 1, 2), "5", 0, 1, 4))
         self.assertEqual([it.images for it in told(self.few_rows(5))], [(1, 2)])
 
-    def test_families_that_few_rows_tie_stay_apart(self) -> None:
+    def test_image_groups_that_few_rows_tie_stay_apart(self) -> None:
         """Two pairs of copies of which few rows tie one to the other."""
         made = [[rows.sector(self.rnd) for _ in range(4)] for _ in range(600)]
         for number in range(70):
@@ -273,14 +273,14 @@ class Families(unittest.TestCase):
                 one = rows.sector(self.rnd)
                 made.append([one, one if number < same else rows.sector(self.rnd)])
             found = relations.read(rows.text(made), 1)
-            self.assertEqual(families.copies_of(found, frozenset((0, 1))), copies)
+            self.assertEqual(image_groups.copies_of(found, frozenset((0, 1))), copies)
 
     def test_a_copy_of_one_disk(self) -> None:
         """A RAID 5 of four disks of which one was imaged twice is no array of copies."""
         made = [[*row, row[1]] for row in rows.striped(self.rnd, 4, 5, NUMBER)]
         found, = told(made)
         self.assertEqual(found.images, (0, 1, 2, 3, 4))
-        self.assertNotEqual(found.level, families.COPIES)
+        self.assertNotEqual(found.level, image_groups.COPIES)
 
     def test_turning_copies(self) -> None:
         """Copies of a RAID 10 of five disks, of which each row has other pairs, are no RAID 5."""
@@ -297,7 +297,7 @@ class Among(unittest.TestCase):
 
     def among(self, line: str, *images: int) -> list[tuple[int, tuple[tuple[int, int], ...]]]:
         """The ties of these images."""
-        found = families.ties_among(relations.read(f"rows 0 0 zero - tied {line}\n", 1).rows[0], frozenset(images))
+        found = image_groups.ties_among(relations.read(f"rows 0 0 zero - tied {line}\n", 1).rows[0], frozenset(images))
         return [(tie.image, tie.weights) for tie in found]
 
     def test_within(self) -> None:
@@ -331,7 +331,7 @@ class Chunks(unittest.TestCase):
             for step in (1, 8):
                 with self.subTest(lost=lost, step=step):
                     found = relations.read(rows.text(made[::step], 2048 + 16, step), step)
-                    self.assertEqual(families.chunk_of(found, range(6 - lost)), (32, 16))
+                    self.assertEqual(image_groups.chunk_of(found, range(6 - lost)), (32, 16))
 
     def test_borders_at_few_places(self) -> None:
         """Changes that lie at all places, and at each of them in few rows, as an image makes that is of the array here and there, tell no chunk."""
@@ -339,13 +339,13 @@ class Chunks(unittest.TestCase):
         for first in range(24, 2048, 56):
             made[first:first + 8] = rows.striped(random.Random(first), 6, 6, 8, chunk=8)
         found = relations.read(rows.text(made[::8], 2048, 8), 8)
-        self.assertGreater(len(list(families.borders(found, frozenset(range(6))))), 20)
-        self.assertIsNone(families.chunk_of(found, range(6)))
+        self.assertGreater(len(list(image_groups.borders(found, frozenset(range(6))))), 20)
+        self.assertIsNone(image_groups.chunk_of(found, range(6)))
 
     def test_level_5(self) -> None:
         """At level 5 the ties are the same in all rows."""
         found = relations.read(rows.text(rows.striped(random.Random(3), 5, 5, 320)), 1)
-        self.assertIsNone(families.chunk_of(found, range(5)))
+        self.assertIsNone(image_groups.chunk_of(found, range(5)))
 
 
 if __name__ == "__main__":

@@ -1,4 +1,4 @@
-"""Whole runs over a stand-in for reraid: the order of trials, where a run ends, what is printed, and every status."""
+"""Whole runs over a stand-in for reraid: the order of steps, where a run ends, what is printed, and every status."""
 
 import contextlib
 import io
@@ -27,12 +27,12 @@ from reraid_try.checks.verdicts import Score
 from reraid_try.checks.volumes import Room
 from reraid_try.errors import OutsideError, Stopped
 from reraid_try.options import Options
-from reraid_try.policy import cures
-from reraid_try.policy.cures import Family
+from reraid_try.policy import relaxations
+from reraid_try.policy.relaxations import RelaxationKind
 from reraid_try.policy.evident import Evident
 from reraid_try.policy.search import Search
 from reraid_try.policy.shapes import Shape
-from reraid_try.policy.trials import Trial
+from reraid_try.policy.steps import Step
 from reraid_try.report.report import Report
 from reraid_try.units import MIB, SECTOR
 from tests.standin import InFolder, Standin, Told, plan_of, put
@@ -80,8 +80,8 @@ class Runs(InFolder):
         """What `write` puts: an XFS of so many bytes, with files behind it."""
         return "reraid write", Answer(0, (b"XFSB" + struct.pack(">IQ", 4096, length // 4096)).ljust(16 * SECTOR, b"\0") + files)
 
-    def trials(self) -> list[str]:
-        """The trials that were printed."""
+    def steps(self) -> list[str]:
+        """The steps that were printed."""
         return [line.split(": ", 1)[1] for line in self.report.lines if line.startswith("step ")]
 
     def test_found_at_once(self) -> None:
@@ -92,7 +92,7 @@ class Runs(InFolder):
         search = self.run_search(self.search(self.listing("levels 5\n"), self.volume(picture)))
         self.assertIs(search.best(), Score.WHOLE)
         self.assertEqual([it.word.text for it in search.tested], [TRUE])
-        self.assertEqual(self.trials()[-1], "RAID 5 of 3 disks; relaxed: nothing: 1 of 84 layouts passes")
+        self.assertEqual(self.steps()[-1], "RAID 5 of 3 disks; relaxed: nothing: 1 of 84 layouts passes")
         self.assertEqual(search.tested[0].rows, "parity is consistent in all 9 rows")
         self.assertIn("hint: data offset 2048 sectors, from landmark super on image 0: sector 2048 less 0; on 1 image", self.report.lines)
 
@@ -105,7 +105,7 @@ class Runs(InFolder):
         self.assertNotIn("diagnosis", self.report.text)
 
     def test_evidence_that_says_enough_ends_it(self) -> None:
-        """An encrypted volume has no sign, and may have no score: nothing is searched over all images then, nor diagnosed."""
+        """An encrypted volume has no rating, and may have no score: nothing is searched over all images then, nor diagnosed."""
         with mock.patch.object(Evident, "run", lambda _: True):
             search = self.run_search(self.search())
         self.assertEqual((search.best(), search.solved, self.standin.count("reraid list"), self.standin.count("reraid survey")),
@@ -134,7 +134,7 @@ class Runs(InFolder):
             self.assertEqual(sum(line.startswith(f"{search.room.base} has ") for line in self.report.lines), said)
             self.assertEqual(self.report.record.last("room").get("images", 3 * SIZE * SECTOR), 3 * SIZE * SECTOR)
 
-    def test_a_small_file_system_has_no_sign(self) -> None:
+    def test_a_small_file_system_has_no_rating(self) -> None:
         few: dict[str, Any] = {"levels": ("5",), "members": (3,), "seconds": 1}
         search = self.run_search(self.search(self.listing("levels 5\n"), self.volume(length=512 * 1024), **few))
         self.assertIs(search.best(), Score.KNOWN)
@@ -164,7 +164,7 @@ class Runs(InFolder):
         self.assertEqual([(it.word.text, it.alike) for it in search.tested],
                          [(TRUE, ["6:ls-6:after-q:128:2048:0,1,2,-", "6:ls:after-q:128:2048:0,1,2,-"])])
 
-    def test_refused_trials_are_said(self) -> None:
+    def test_refused_steps_are_said(self) -> None:
         self.run_search(self.search(("reraid list", put("", 5, "reraid: the product has more than 18446744073709551615 sets\n")), levels=("0",)))
         self.assertIn("  reraid: the product has more than 18446744073709551615 sets", self.report.lines)
 
@@ -186,10 +186,10 @@ class Runs(InFolder):
         search = self.search()
         search.tests = cast(Any, types.SimpleNamespace(test=lambda _: [], without_damaged=lambda _: [], tell=None,
                                                        put_off=[types.SimpleNamespace(word=read_word(TRUE))]))
-        hunt = cast(Any, types.SimpleNamespace(evidence=types.SimpleNamespace(pairs=None)))
-        for chosen, known in (((cures.told("no landmarks", Family.BARE),), set()), ((), {TRUE})):
-            trial = Trial(Shape("5", 3), chosen)
-            search.take(hunt, trial, [Ranked(3, TRUE)], lambda it: (read_word(it.text), read_word(it.text)))
+        scope = cast(Any, types.SimpleNamespace(evidence=types.SimpleNamespace(pairs=None)))
+        for chosen, known in (((relaxations.told("no landmarks", RelaxationKind.BARE),), set()), ((), {TRUE})):
+            step = Step(Shape("5", 3), chosen)
+            search.take(scope, step, [Ranked(3, TRUE)], lambda it: (read_word(it.text), read_word(it.text)))
             self.assertEqual(search.known, known)
 
     def test_stopped_in_the_midst(self) -> None:
@@ -307,7 +307,7 @@ class Statuses(InFolder):
         self.assertEqual(os.listdir(f"{self.folder}/room"), [])
         return out.getvalue()
 
-    def test_signed(self) -> None:
+    def test_rated(self) -> None:
         text = self.ends(0, "--levels", "5", "--members", "3", says="candidate 0: RAID 5 of 3 disks, left-symmetric")
         self.assertRegex(text, r"(?m)^\+   0   5:ls:none:128:2048:0,1,2\n(?: {8}.*\n)*? {8}relaxed: nothing; landmarks that match: xfs 2")
 
@@ -371,7 +371,7 @@ class Statuses(InFolder):
         self.assertIn("no candidates\ninterrupted before any volume was checked", self.interrupted("slow list", signal.SIGTERM))
 
     def test_numbers(self) -> None:
-        self.assertEqual((main.SIGNED, main.NONE, main.OUTSIDE, main.INTERRUPTED, main.CLOSED), (0, 1, 3, 130, 141))
+        self.assertEqual((main.RATED, main.NONE, main.OUTSIDE, main.INTERRUPTED, main.CLOSED), (0, 1, 3, 130, 141))
 
 
 if __name__ == "__main__":

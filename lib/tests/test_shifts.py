@@ -48,12 +48,12 @@ class Files(unittest.TestCase):
         same = self.sectors(90)
         names = {0: self.write(0, same), 1: self.write(1, [ZERO] * 8 + same)}
         for each, of_all, shown in ((60 * 512, 1 << 20, 52), (1 << 20, 80 * 512, 32), (1 << 20, 1 << 20, 90)):
-            with mock.patch.multiple(shifts, MOST_READ=each, MOST_OF_ALL=of_all):
+            with mock.patch.multiple(shifts, MAX_READ=each, MAX_OF_ALL=of_all):
                 self.assertEqual(self.told(names, 0, 100), [Shift(0, 1, 8, shown)])
 
     def test_too_few(self) -> None:
         """A few sectors in common, and many of which no distance stands out, tell none."""
-        few = self.sectors(shifts.LEAST_SHOWN - 1)
+        few = self.sectors(shifts.MIN_SHOWN - 1)
         names = {0: self.write(0, few + self.sectors(9)), 1: self.write(1, self.sectors(9) + few)}
         self.assertEqual(self.told(names, 0, 20), [])
         many = self.sectors(200)

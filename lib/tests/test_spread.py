@@ -280,7 +280,7 @@ class Counts(Here):
 
     def test_bound(self) -> None:
         """No more is read than may be: a file that would be more is not looked at."""
-        self.assertEqual((spread.MOST_READ, spread.WINDOWS * spread.WINDOW), (GIB, 512 * MIB))
+        self.assertEqual((spread.MAX_READ, spread.WINDOWS * spread.WINDOW), (GIB, 512 * MIB))
         raw = spread.Counted(self.volume({0: b"x" * MIB}))
         self.assertEqual((raw.readinto(bytearray(MIB)), raw.count, raw.is_full), (MIB, MIB, False))
         raw.count = GIB
@@ -328,7 +328,7 @@ class Counts(Here):
     def test_stopped(self) -> None:
         """That a checker was ended since it had read too much is said, unlike that it took too long."""
         system = system_of("xfs")
-        self.assertEqual(meter.MOST_OF_IMAGE, 4 * GIB)
+        self.assertEqual(meter.MAX_OF_IMAGE, 4 * GIB)
         bound = Meter(lambda: 0, 3 * 4 * GIB)
         self.assertEqual(unended(system, Answer(None, full=True), bound, 3), "xfs_repair stopped after 4 GiB of each image")
         self.assertEqual(unended(system, Answer(None, full=True), Meter(lambda: 0, GIB), 4), "xfs_repair stopped after 0.25 GiB of each image")

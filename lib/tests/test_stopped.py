@@ -5,12 +5,12 @@ from collections.abc import Sequence
 
 from reraid_try.errors import OutsideError
 from reraid_try.evidence import stopped as early_ends
-from reraid_try.evidence.families import Family
+from reraid_try.evidence.image_groups import ImageGroup
 from reraid_try.evidence.images import Image
 from reraid_try.evidence.ties import Known, Told
 from reraid_try.options import Options
 from reraid_try.policy import stopped
-from reraid_try.policy.plain import Aim, Span
+from reraid_try.policy.plain import Target, Span
 from reraid_try.policy.shapes import Shape
 from reraid_try.units import SECTOR
 from tests.standin import InFolder
@@ -58,39 +58,40 @@ class Found(InFolder):
             early_ends.holds_behind(Image(f"{self.folder}/none", 0, FULL), SHORT, FULL)
 
 
-class Aims(unittest.TestCase):
+class Targets(unittest.TestCase):
     images = tuple(Image(f"{name}.img", k, SHORT if name == "b" else FULL + k) for k, name in enumerate("abcd"))
 
-    def aims(self, family: Family, short: Sequence[int] = (1,), span: Span = Span(0, SHORT), chunk: int | None = None) -> list[Aim]:
+    def targets(self, group: ImageGroup, short: Sequence[int] = (1,), span: Span = Span(0, SHORT), chunk: int | None = None) -> list[Target]:
         """What is tried."""
-        told = Told((Known(family, chunk, 8),), (), True)
-        return stopped.aims([self.images[number] for number in short], told, span, self.images, OPTIONS)
+        told = Told((Known(group, chunk, 8),), (), True)
+        return stopped.targets([self.images[number] for number in short], told, span, self.images, OPTIONS)
 
     def test_level_5(self) -> None:
         """Without the one that ends early, to the end of the shortest other one; parity tells nothing then, so landmarks are asked."""
-        aim, = self.aims(Family((0, 1, 2, 3), 900, 0, 999, "5", 1), chunk=128)
+        target, = self.targets(ImageGroup((0, 1, 2, 3), 900, 0, 999, "5", 1), chunk=128)
         shapes = (Shape("5", 4, 1),)
-        self.assertEqual((aim.images, aim.span, aim.shapes, aim.by_thousands), ((0, 2, 3), Span(0, FULL), shapes, shapes))
-        self.assertEqual((aim.begin, aim.asked, aim.tied), (8, (("chunks", "128"),), True))
+        self.assertEqual((target.images, target.span, target.shapes, target.by_thousands), ((0, 2, 3), Span(0, FULL), shapes, shapes))
+        self.assertEqual((target.begin, target.asked, target.tied), (8, (("chunks", "128"),), True))
 
     def test_level_6(self) -> None:
         """With one left out parity tells something still; with a disk lost too it does not."""
-        aim, = self.aims(Family((0, 1, 2, 3), 900, 0, 999, "6", 2))
-        self.assertEqual((aim.shapes, aim.by_thousands), ((Shape("6", 4, 1),), ()))
-        aim, = self.aims(Family((0, 1, 2, 3), 900, 0, 999, "6", 1))
-        self.assertEqual((aim.shapes, aim.by_thousands), ((Shape("6", 5, 2),), (Shape("6", 5, 2),)))
+        target, = self.targets(ImageGroup((0, 1, 2, 3), 900, 0, 999, "6", 2))
+        self.assertEqual((target.shapes, target.by_thousands), ((Shape("6", 4, 1),), ()))
+        target, = self.targets(ImageGroup((0, 1, 2, 3), 900, 0, 999, "6", 1))
+        self.assertEqual((target.shapes, target.by_thousands), ((Shape("6", 5, 2),), (Shape("6", 5, 2),)))
 
     def test_partition(self) -> None:
         """A part of the disks keeps its end."""
-        self.assertEqual([aim.span for aim in self.aims(Family((0, 1, 2, 3), 900, 0, 999, "5", 1), span=Span(64, 950, True))], [Span(64, 950, True)])
+        found = self.targets(ImageGroup((0, 1, 2, 3), 900, 0, 999, "5", 1), span=Span(64, 950, True))
+        self.assertEqual([it.span for it in found], [Span(64, 950, True)])
 
     def test_nothing(self) -> None:
         """None if the level does not bear it, if it is no level of parity, or if no such image is tied."""
-        self.assertEqual(self.aims(Family((0, 1, 2, 3), 900, 0, 999, "5", 0)), [])
-        self.assertEqual(self.aims(Family((0, 1, 2, 3), 900, 0, 999, "10", 1)), [])
-        self.assertEqual(self.aims(Family((0, 2, 3), 900, 0, 999, "5", 1)), [])
-        self.assertEqual(self.aims(Family((0, 1, 2, 3), 900, 0, 999, "5", 1), ()), [])
-        self.assertEqual(self.aims(Family((0, 1, 2, 3), 900, 0, 999, "6", 1), (1, 2)), [])
+        self.assertEqual(self.targets(ImageGroup((0, 1, 2, 3), 900, 0, 999, "5", 0)), [])
+        self.assertEqual(self.targets(ImageGroup((0, 1, 2, 3), 900, 0, 999, "10", 1)), [])
+        self.assertEqual(self.targets(ImageGroup((0, 2, 3), 900, 0, 999, "5", 1)), [])
+        self.assertEqual(self.targets(ImageGroup((0, 1, 2, 3), 900, 0, 999, "5", 1), ()), [])
+        self.assertEqual(self.targets(ImageGroup((0, 1, 2, 3), 900, 0, 999, "6", 1), (1, 2)), [])
 
     def test_line(self) -> None:
         self.assertEqual(stopped.line(self.images[1], self.images), "image 1 b.img ends at sector 600, 59% of the longest: others hold data after "

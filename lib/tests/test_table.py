@@ -6,7 +6,7 @@ from reraid_try.checks.candidates import Inside
 from reraid_try.checks.verdicts import Score, Verdict
 from reraid_try.checks.wholes import Wholes
 from reraid_try.evidence.images import Image
-from reraid_try.policy import cures
+from reraid_try.policy import relaxations
 from reraid_try.report import table
 from tests.standin import Told
 from tests.test_candidates import SET, candidate, whole
@@ -27,7 +27,7 @@ class Table(unittest.TestCase):
                 self.assertEqual(report.lines[1].split("\n"), [f"++  0   {SET}", f"{table.INDENT}xfs: said; 1 of 1 files intact",
                                                                f"{table.INDENT}relaxed: nothing"])
         unsound = Told()
-        table.show(unsound, [candidate(verdict=whole(), unsound=7, chosen=(cures.misfits(),))], images)
+        table.show(unsound, [candidate(verdict=whole(), unsound=7, chosen=(relaxations.misfits(),))], images)
         self.assertEqual(unsound.lines[1].split("\n")[2], "        relaxed: 8 mismatches; 7 inconsistent rows")
         sound = Told()
         table.show(sound, [candidate(verdict=whole(), unsound=0)], images)
@@ -39,7 +39,7 @@ class Table(unittest.TestCase):
     def test_fields(self) -> None:
         """What programs are told: of a volume that begins inside another one also which and how far."""
         for inside, told in ((Inside(1, 2), [1, 2]), (None, None)):
-            fields = table.fields(4, candidate(verdict=whole(), unsound=7, inside=inside, chosen=(cures.misfits(),)))
+            fields = table.fields(4, candidate(verdict=whole(), unsound=7, inside=inside, chosen=(relaxations.misfits(),)))
             self.assertEqual({name: fields[name] for name in ("class", "set", "inside", "unsound", "loosened", "sign", "score")},
                              {"class": 4, "set": SET, "inside": told, "unsound": 7, "loosened": ["8 mismatches"], "sign": "++", "score": 3})
 

@@ -13,10 +13,10 @@ from reraid_try.evidence.images import Image
 from reraid_try.options import Options
 from reraid_try.policy import plain, thousands
 from reraid_try.policy.evident import Evident
-from reraid_try.policy.hunt import Hunt
-from reraid_try.policy.plain import Aim, Span
+from reraid_try.policy.scope import Scope
+from reraid_try.policy.plain import Target, Span
 from reraid_try.policy.shapes import Shape
-from reraid_try.policy.trials import Trial
+from reraid_try.policy.steps import Step
 from reraid_try.units import SECTOR
 from tests.standin import InFolder, Standin, Told, plan_of, put
 from tests.test_policy import XFS
@@ -24,7 +24,7 @@ from tests.test_policy import XFS
 ZERO, FIVE, SIX = Shape("0", 3), Shape("5", 4, 1), Shape("6", 5, 2)
 SHAPES = ZERO, FIVE, SIX
 BOTH = ("xfs5", "btrfstree")
-WHOLE = Aim((0, 1, 2), Span(0, 8000), "why", SHAPES)
+WHOLE = Target((0, 1, 2), Span(0, 8000), "why", SHAPES)
 
 
 def inode_group(count: int) -> tuple[str, list[tuple[str, int, int, str]]]:
@@ -48,8 +48,8 @@ def surveyed(*counts: int) -> tuple[Plan, Plan]:
 
 
 class Thousands(InFolder):
-    def hunt(self, fits: Mapping[str, Sequence[int]], *counts: int, late: bool = False) -> Hunt:
-        """A hunt over three images, of which the sets of a level have so many fits each, and the groups of inodes so many marks."""
+    def scope(self, fits: Mapping[str, Sequence[int]], *counts: int, late: bool = False) -> Scope:
+        """A scope over three images, of which the sets of a level have so many fits each, and the groups of inodes so many marks."""
         names = [self.file(f"{k}.img", b"x" * 8000 * SECTOR) for k in range(3)]
         without, with_them = surveyed(*counts)
 
@@ -72,105 +72,105 @@ class Thousands(InFolder):
         self.standin = Standin(("reraid survey", survey), ("reraid list", listed))
         self.late: list[str] = []
         images = [Image(name, k, 8000) for k, name in enumerate(names)]
-        return Hunt(Options(tuple(names)), self.standin, images, lambda what, _: self.late.append(what))
+        return Scope(Options(tuple(names)), self.standin, images, lambda what, _: self.late.append(what))
 
-    def most(self, hunt: Hunt) -> list[tuple[str, int]]:
+    def most(self, scope: Scope) -> list[tuple[str, int]]:
         """The levels whose sets the most inodes of the first group speak for, and how many these are."""
-        group, = thousands.groups_of(hunt, ZERO, BOTH)
-        return [(it.shape.levels, it.fits) for it in thousands.most_of(hunt, SHAPES, group, BOTH)]
+        group, = thousands.groups_of(scope, ZERO, BOTH)
+        return [(it.shape.levels, it.fits) for it in thousands.most_of(scope, SHAPES, group, BOTH)]
 
     def test_shapes(self) -> None:
         """That with the most fits; all of them where they are as many."""
-        self.assertEqual(self.most(self.hunt({"0": [5, 3], "5": [14, 9], "6": [9]}, 16)), [("5", 14)])
-        self.assertEqual(self.most(self.hunt({"0": [5], "5": [14], "6": [14, 14]}, 16)), [("5", 14), ("6", 14)])
-        self.assertEqual(self.most(self.hunt({"0": [16], "5": [15], "6": [16]}, 16)), [("0", 16), ("6", 16)])
-        self.assertEqual(self.most(self.hunt({"0": [], "5": [], "6": []}, 16)), [])
+        self.assertEqual(self.most(self.scope({"0": [5, 3], "5": [14, 9], "6": [9]}, 16)), [("5", 14)])
+        self.assertEqual(self.most(self.scope({"0": [5], "5": [14], "6": [14, 14]}, 16)), [("5", 14), ("6", 14)])
+        self.assertEqual(self.most(self.scope({"0": [16], "5": [15], "6": [16]}, 16)), [("0", 16), ("6", 16)])
+        self.assertEqual(self.most(self.scope({"0": [], "5": [], "6": []}, 16)), [])
 
     def test_one_question_of_a_worse_shape(self) -> None:
         """After five of the first, of 16 marks: 8, 12, 14, 15, 16, or less."""
-        self.most(self.hunt({"0": [16], "5": [4], "6": [3]}, 16))
+        self.most(self.scope({"0": [16], "5": [4], "6": [3]}, 16))
         self.assertEqual([text.split("bounds ")[1].split("\n")[0] for words, text in self.standin.asked if "list" in words][-2:], ["16 16", "16 16"])
         self.assertLessEqual(self.standin.count("reraid list"), 7)
 
     def test_late(self) -> None:
         """What ran out of its time tells nothing, and that is said."""
-        self.assertEqual(self.most(self.hunt({}, 16, late=True)), [])
+        self.assertEqual(self.most(self.scope({}, 16, late=True)), [])
         self.assertEqual(self.late, ["enough landmarks allow"] * 3)
 
     def test_groups(self) -> None:
         """Two at most, with twelve inodes at least, the largest first."""
         for counts, places in (((11,), []), ((12,), [1]), ((12, 16, 11), [2, 1]), ((13, 12, 13), [1, 3])):
-            self.assertEqual([group.place for group in thousands.groups_of(self.hunt({}, *counts), ZERO, BOTH)], places)
+            self.assertEqual([group.place for group in thousands.groups_of(self.scope({}, *counts), ZERO, BOTH)], places)
 
     def test_kinds(self) -> None:
         """Groups of the kinds that are asked for; what is said of each kind."""
-        hunt = self.hunt({}, 16)
+        scope = self.scope({}, 16)
         plan = plan_of(XFS, inode_group(13), tree_group(16), tree_group(12), lengths=(8000,) * 3)
         self.standin.rows = (("reraid survey", put(plan.text())),)
         for kinds, places in ((BOTH, [2, 1]), (BOTH[:1], [1]), (BOTH[1:], [2, 3])):
-            self.assertEqual([group.place for group in thousands.groups_of(hunt, ZERO, kinds)], places)
+            self.assertEqual([group.place for group in thousands.groups_of(scope, ZERO, kinds)], places)
         self.assertEqual(thousands.Most(ZERO, plan, plan.groups[2], 14).line(9),
                          "14 of 16 tree blocks of a btrfs lie at the places that the chunk tree states; with the next layout, 9 do")
         plan = plan_of(XFS, pair_group(361), inode_group(13), lengths=(8000,) * 3)
         self.standin.rows = (("reraid survey", put(plan.text())),)
-        self.assertEqual([group.place for group in thousands.groups_of(hunt, ZERO, ("extinode",))], [1])
+        self.assertEqual([group.place for group in thousands.groups_of(scope, ZERO, ("extinode",))], [1])
         self.assertEqual(thousands.Most(ZERO, plan, plan.groups[1], 300).line(None),
                          "300 of 361 inode pairs of an ext4 lie at the places that the block group descriptors state")
 
-    def attempted(self, hunt: Hunt, whole: bool = False) -> tuple[bool, list[str], list[tuple[Trial, list[str]]]]:
-        """Whether the search is at its end, what was said, and the trials with the sets that were tested."""
-        report, tested = Told(), list[tuple[Trial, list[str]]]()
+    def attempted(self, scope: Scope, whole: bool = False) -> tuple[bool, list[str], list[tuple[Step, list[str]]]]:
+        """Whether the search is at its end, what was said, and the steps with the sets that were tested."""
+        report, tested = Told(), list[tuple[Step, list[str]]]()
 
-        def take(_hunt: Hunt, trial: Trial, sets: Any, words_of: Any) -> bool:
-            tested.append((trial, [words_of(it)[1].text for it in sets]))
+        def take(_scope: Scope, step: Step, sets: Any, words_of: Any) -> bool:
+            tested.append((step, [words_of(it)[1].text for it in sets]))
             return whole
 
-        def say_trial(_hunt: Hunt, trial: Trial, _listing: Any) -> Trial:
+        def say_step(_scope: Scope, step: Step, _listing: Any) -> Step:
             report.put(search.why)
-            return trial
-        search: Any = types.SimpleNamespace(report=report, why="before", take=take, say_trial=say_trial, say_refused=report.put)
-        done = thousands.attempt_all(search, hunt, SHAPES, BOTH)
+            return step
+        search: Any = types.SimpleNamespace(report=report, why="before", take=take, say_step=say_step, say_refused=report.put)
+        done = thousands.attempt_all(search, scope, SHAPES, BOTH)
         self.assertEqual(search.why, "before")
         return done, report.lines, tested
 
-    def test_trial(self) -> None:
-        """The sets with the most are tested, with their reason, by what is asked for where nothing is loosened."""
-        hunt = self.hunt({"0": [5], "5": [14, 9, 14], "6": [9]}, 16)
-        done, said, tested = self.attempted(hunt)
+    def test_step(self) -> None:
+        """The sets with the most are tested, with their reason, by what is asked for where nothing is relaxed."""
+        scope = self.scope({"0": [5], "5": [14, 9, 14], "6": [9]}, 16)
+        done, said, tested = self.attempted(scope)
         why = "14 of 16 inodes of an XFS lie at the places that their numbers state; with the next layout, 9 do"
         self.assertEqual((done, said), (False, [f"  {why}", why]))
-        (trial, words), = tested
-        self.assertEqual((trial.line(), words), ("RAID 5 of 4 disks, 1 missing; relaxed: only the inodes of an XFS, as many as match",
-                                                 ["5:ls:none:128:2048:0,1,2,-"] * 2))
-        self.assertEqual((trial.request, trial.out, trial.is_bare), (hunt.asking.request(FIVE), frozenset({0}), False))
+        (step, words), = tested
+        self.assertEqual((step.line(), words), ("RAID 5 of 4 disks, 1 missing; relaxed: only the inodes of an XFS, as many as match",
+                                                ["5:ls:none:128:2048:0,1,2,-"] * 2))
+        self.assertEqual((step.request, step.out, step.is_bare), (scope.asking.request(FIVE), frozenset({0}), False))
 
     def test_end(self) -> None:
         """A set that is whole ends the search; where no other set has any fits, none is named."""
-        done, said, tested = self.attempted(self.hunt({"0": [], "5": [14], "6": [14]}, 16), whole=True)
+        done, said, tested = self.attempted(self.scope({"0": [], "5": [14], "6": [14]}, 16), whole=True)
         self.assertEqual((done, said[0], len(tested)), (True, "  14 of 16 inodes of an XFS lie at the places that their numbers state", 1))
 
     def test_too_many(self) -> None:
         """Of more than 64 sets inodes tell nothing."""
-        self.assertEqual(self.attempted(self.hunt({"0": [], "5": [14] * 65, "6": []}, 16)), (False, [], []))
-        self.assertEqual(len(self.attempted(self.hunt({"0": [], "5": [14] * 64, "6": []}, 16))[2][0][1]), 64)
+        self.assertEqual(self.attempted(self.scope({"0": [], "5": [14] * 65, "6": []}, 16)), (False, [], []))
+        self.assertEqual(len(self.attempted(self.scope({"0": [], "5": [14] * 64, "6": []}, 16))[2][0][1]), 64)
 
     def test_few(self) -> None:
         """Sets at which fewer than a tenth of a group lie where they say are not tried: far copies have as many by chance."""
-        for marks, trials in ((20, 1), (21, 0)):
-            self.assertEqual(len(self.attempted(self.hunt({"0": [], "5": [2], "6": []}, marks))[2]), trials)
+        for marks, steps in ((20, 1), (21, 0)):
+            self.assertEqual(len(self.attempted(self.scope({"0": [], "5": [2], "6": []}, marks))[2]), steps)
 
     def test_refused(self) -> None:
         """What the program refuses is said, and the search goes on."""
-        hunt = self.hunt({}, 16)
+        scope = self.scope({}, 16)
         self.standin.rows = (("reraid survey", put("", 1, "reraid: no")),)
-        self.assertEqual(self.attempted(hunt)[0], False)
+        self.assertEqual(self.attempted(scope)[0], False)
 
 
 class Asked(unittest.TestCase):
-    """Of which aims landmarks by the thousand are asked."""
+    """Of which targets landmarks by the thousand are asked."""
 
     def by_thousands(self, kinds: tuple[str, ...], groups: tuple[str, ...], shapes: tuple[Shape, ...] = SHAPES) -> list[str]:
-        """What is asked where the program knows these kinds and these groups are seen, in a search that has a candidate with a sign already."""
+        """What is asked where the program knows these kinds and these groups are seen, in a search that has a candidate with a rating already."""
         asked: list[str] = []
 
         def plan(_request: Any) -> Plan:
@@ -180,17 +180,17 @@ class Asked(unittest.TestCase):
         search = types.SimpleNamespace(options=Options(("a",)), report=types.SimpleNamespace(bar=bar),
                                        tested=[types.SimpleNamespace(score=Score.CHECKED)])
         request = types.SimpleNamespace(having=lambda **values: values)
-        hunt: Any = types.SimpleNamespace(plan=types.SimpleNamespace(groups=[types.SimpleNamespace(kind=kind) for kind in groups]),
-                                          surveys=types.SimpleNamespace(plan=plan), asking=types.SimpleNamespace(request=lambda _: request),
-                                          evidence=types.SimpleNamespace(images=(Image("a", 0, 9),), pairs=None, end=9))
+        scope: Any = types.SimpleNamespace(plan=types.SimpleNamespace(groups=[types.SimpleNamespace(kind=kind) for kind in groups]),
+                                           surveys=types.SimpleNamespace(plan=plan), asking=types.SimpleNamespace(request=lambda _: request),
+                                           evidence=types.SimpleNamespace(images=(Image("a", 0, 9),), pairs=None, end=9))
         it = Evident(cast(Any, search))
         it.__dict__["later_kinds"] = kinds
-        self.assertFalse(it.by_thousands(hunt, Aim((0, 1, 2), Span(0, 9), "why", by_thousands=shapes), 1))
-        self.assertTrue(not asked or it.by_thousands(hunt, Aim((0, 1, 2), Span(0, 9), "why", by_thousands=shapes), 0))
+        self.assertFalse(it.by_thousands(scope, Target((0, 1, 2), Span(0, 9), "why", by_thousands=shapes), 1))
+        self.assertTrue(not asked or it.by_thousands(scope, Target((0, 1, 2), Span(0, 9), "why", by_thousands=shapes), 0))
         return asked
 
     def test_known(self) -> None:
-        """Only where the program knows the kind and a superblock was seen is anything asked; what is content ends the trials of the aim."""
+        """Only where the program knows the kind and a superblock was seen is anything asked; what is content ends the steps of the target."""
         for kinds, groups in ((("xfs5",), ("gpt", "xfs")), (("btrfstree",), ("btrfs",)), (("xfs5", "btrfstree"), ("btrfs", "xfs")),
                               (("extinode",), ("ext",))):
             self.assertEqual(self.by_thousands(kinds, groups)[:1], ["survey"])
@@ -198,18 +198,18 @@ class Asked(unittest.TestCase):
                                       (("xfs5",), ("btrfs",), SHAPES), (("btrfstree",), ("xfs",), SHAPES), (("xfs5",), ("xfs",), ())):
             self.assertEqual(self.by_thousands(kinds, groups, shapes), [])
 
-    def asked(self, aims: Sequence[Aim], untied: tuple[Shape, ...] = ()) -> list[tuple[Shape, ...]]:
+    def asked(self, targets: Sequence[Target], untied: tuple[Shape, ...] = ()) -> list[tuple[Shape, ...]]:
         """The shapes at which each of these asks them."""
-        return [aim.by_thousands for aim in plain.with_thousands(aims, untied)]
+        return [target.by_thousands for target in plain.with_thousands(targets, untied)]
 
-    def test_aims(self) -> None:
+    def test_targets(self) -> None:
         """Once where nothing ties the images, before copies that lie apart are looked for; and of what is tied where parity tells nothing."""
-        apart = Aim((0, 1, 2), Span(0, 9), "why", copied=True, apart=2048)
-        each = Aim((0, 1, 2), Span(0, 9), "why", (FIVE,), (("mode", "each"),), tied=True)
+        apart = Target((0, 1, 2), Span(0, 9), "why", copied=True, apart=2048)
+        each = Target((0, 1, 2), Span(0, 9), "why", (FIVE,), (("mode", "each"),), tied=True)
         self.assertEqual(self.asked([apart, WHOLE], WHOLE.shapes), [SHAPES, ()])
         self.assertEqual(self.asked([each, WHOLE], WHOLE.shapes), [(), SHAPES])
         self.assertEqual(self.asked([apart]), [()])
-        lost, there, loose = (Aim((0, 1, 2), Span(0, 9), "why", shapes, tied=True)
+        lost, there, loose = (Target((0, 1, 2), Span(0, 9), "why", shapes, tied=True)
                               for shapes in ((FIVE,), (Shape("5", 3),), (Shape("6", 4, 1), Shape("6", 4, 2, 1))))
         self.assertEqual(self.asked([lost, there, loose]), [(FIVE,), (), ()])
 

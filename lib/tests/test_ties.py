@@ -10,7 +10,7 @@ from unittest import mock
 
 from reraid_try.calls.commands import Answer, Words
 from reraid_try.evidence import ties, unlike
-from reraid_try.evidence.families import Family
+from reraid_try.evidence.image_groups import ImageGroup
 from reraid_try.evidence.images import Image
 from reraid_try.evidence.shifts import Distances, Shift
 from reraid_try.evidence.ties import Ties
@@ -68,7 +68,7 @@ class Told(unittest.TestCase):
         told = Ties(runner, images, 9).told(range(6), 0, 624)
         self.assertEqual((told.asked, told.alone, len(told.known)), (True, (5,), 1))
         known = told.known[0]
-        self.assertEqual((known.family.images, known.family.level, known.family.lost, known.family.members), ((0, 1, 2, 3, 4), "6", 1, 6))
+        self.assertEqual((known.group.images, known.group.level, known.group.lost, known.group.members), ((0, 1, 2, 3, 4), "6", 1, 6))
         self.assertEqual((known.begin, known.chunk), (24, 16))
         line = "images 0, 1, 2, 3, 4: parity matches RAID 6, 6 disks, 1 missing, chunks of 8 KiB, first match at sector 24"
         self.assertEqual(ties.lines(told), [line, "image 5: matches nothing. No member, zeros, too old or damaged to tell, or from an array that "
@@ -79,14 +79,14 @@ class Told(unittest.TestCase):
         rnd = random.Random(4)
         runner, images = disks(rows.beside(rows.alone(rnd, 300), rows.striped(rnd, 3, 5, 300)))
         told = Ties(runner, images, 9).told((1, 2, 3), 0, 300)
-        self.assertEqual([it.family.images for it in told.known], [(1, 2, 3)])
+        self.assertEqual([it.group.images for it in told.known], [(1, 2, 3)])
         self.assertEqual(runner.asked[0], ["reraid", "relations", "from=0", "end=300", "step=1", "--", "1.img", "2.img", "3.img"])
 
     def test_step(self) -> None:
-        """No more rows are asked for than `MOST_ROWS`."""
+        """No more rows are asked for than `MAX_ROWS`."""
         runner, images = disks([[ZERO, ZERO]])
         runner.answer = Answer(0, b"alone 0,1\nfree 0 of 0\n")
-        Ties(runner, images, 9).told((0, 1), 100, 100 + 10 * ties.MOST_ROWS + 1)
+        Ties(runner, images, 9).told((0, 1), 100, 100 + 10 * ties.MAX_ROWS + 1)
         self.assertIn("step=11", runner.asked[0])
 
     def test_rows_are_read_once(self) -> None:
@@ -120,7 +120,7 @@ class Told(unittest.TestCase):
             runner, _ = disks([[ZERO]])
             runner.answer = Answer(1, b"", "reraid: word 1 is not understood")
             told = Ties(runner, images, 9).told((0, 1, 2), 0, 40)
-        self.assertEqual([(it.family.images, it.family.level, it.family.lost, it.begin) for it in told.known], [((0, 1, 2), "5", 0, 0)])
+        self.assertEqual([(it.group.images, it.group.level, it.group.lost, it.begin) for it in told.known], [((0, 1, 2), "5", 0, 0)])
         self.assertEqual(len(runner.asked), 1)
 
     def test_old_and_loose(self) -> None:
@@ -152,24 +152,24 @@ class Told(unittest.TestCase):
         made[1206] = [*empty[:4], empty[0]]
         runner, images = disks(made)
         for offsets, since in (((), 1207), ((8, 8, 8, 8, 8), 1199)):
-            with mock.patch.object(ties, "MOST_ROWS", 100):
+            with mock.patch.object(ties, "MAX_ROWS", 100):
                 known, = Ties(runner, images, 9).told(range(5), 0, 2900, offsets).known
-            self.assertEqual([(it.image, it.first) for it in known.family.old], [(3, since)])
+            self.assertEqual([(it.image, it.first) for it in known.group.old], [(3, since)])
         runner.answer = Answer(None)
-        self.assertEqual(Ties(runner, images, 9).since(known.family.old[0], known.family, 0, {}), known.family.old[0])
+        self.assertEqual(Ties(runner, images, 9).since(known.group.old[0], known.group, 0, {}), known.group.old[0])
 
     def test_reshape(self) -> None:
         """Where rows are looked at that lie far apart, those between them say where a reshape stopped."""
         rnd = random.Random(12)
         before, after = rows.striped(rnd, 5, 5, 3001), rows.striped(rnd, 4, 5, 6000)
         runner, images = disks(before + rows.beside(after, [[ZERO]] * len(after)))
-        with mock.patch.object(ties, "MOST_ROWS", 100):
+        with mock.patch.object(ties, "MAX_ROWS", 100):
             known, = Ties(runner, images, 9).told(range(5), 0, 9001).known
-        assert known.family.reshape
-        self.assertEqual((known.family.reshape.last, known.family.reshape.sector), (3000, 3001))
+        assert known.group.reshape
+        self.assertEqual((known.group.reshape.last, known.group.reshape.sector), (3000, 3001))
 
-    def said(self, *known: Family, alone: tuple[int, ...] = ()) -> list[str]:
-        """What is said of families, and of images that nothing ties."""
+    def said(self, *known: ImageGroup, alone: tuple[int, ...] = ()) -> list[str]:
+        """What is said of groups, and of images that nothing ties."""
         return ties.lines(ties.Told(tuple(map(ties.Known, known)), alone, True))
 
     def test_a_half_rebuilt_disk(self) -> None:
@@ -181,18 +181,18 @@ class Told(unittest.TestCase):
             for row in made[200:300]:
                 row[1] = bytes(len(row[1]))
             runner, images = disks(made)
-            family = Ties(runner, images, 9).told(range(members), 0, 400).known[0].family
-            self.assertEqual([(it.image, it.rows, it.first) for it in family.old], [(1, 100, 200)] if level == 6 else [])
-            self.assertEqual((family.loose, family.loose_first), (0, None) if level == 6 else (100, 200))
-            line = ties.lost_line(family)
+            group = Ties(runner, images, 9).told(range(members), 0, 400).known[0].group
+            self.assertEqual([(it.image, it.rows, it.first) for it in group.old], [(1, 100, 200)] if level == 6 else [])
+            self.assertEqual((group.loose, group.loose_first), (0, None) if level == 6 else (100, 200))
+            line = ties.lost_line(group)
             self.assertIn("counting one that is old" if level == 6 else ", but not in all rows", line)
         runner, images = disks(rows.striped(random.Random(9), 5, 6, 400, sparse=0.3))
-        family = Ties(runner, images, 9).told(range(5), 0, 400).known[0].family
-        self.assertEqual((family.old, family.loose), ((), 0))
+        group = Ties(runner, images, 9).told(range(5), 0, 400).known[0].group
+        self.assertEqual((group.old, group.loose), ((), 0))
 
     def test_twins(self) -> None:
         """An image that is tied to its twin alone, which is not asked, is not tied to nothing."""
-        told = ties.Told((ties.Known(Family((0, 2), 90, 0, 99, "10", 0, copies=((0, 2),))),), (1, 3), True)
+        told = ties.Told((ties.Known(ImageGroup((0, 2), 90, 0, 99, "10", 0, copies=((0, 2),))),), (1, 3), True)
         self.assertEqual(ties.lines(told, {1: 4})[1:], ["image 1: matches only image 4, which holds the same data",
                                                         "image 3: matches nothing. Its copy is missing, or it is no member, zeros or damaged"])
         self.assertEqual(ties.lines(told, {1: 4, 3: 5})[1:], ["image 1: matches only image 4, which holds the same data",
@@ -201,7 +201,8 @@ class Told(unittest.TestCase):
 
     def test_parts_of_a_nested_array(self) -> None:
         """Two arrays of one level with as many disks each may be one RAID 50; so may one, beside as many images as another has left."""
-        five, other, six = Family((0, 2, 4), 500, 8, 900, "5", 1), Family((1, 3), 500, 8, 900, "5", 0), Family((5, 6, 7), 500, 8, 900, "6", 1)
+        five, other = ImageGroup((0, 2, 4), 500, 8, 900, "5", 1), ImageGroup((1, 3), 500, 8, 900, "5", 0)
+        six = ImageGroup((5, 6, 7), 500, 8, 900, "6", 1)
         whole = dataclasses.replace(other, images=(1, 3, 8), parity=1)
         self.assertEqual(self.said(five, whole)[2:], ["images 0, 2, 4 and images 1, 3, 8: 2 arrays of RAID 5 with 3 disks each. Each stands by "
                                                       "itself, or they are the parts of one RAID 50, which is not searched (docs/RECIPES.md tells "
@@ -215,7 +216,7 @@ class Told(unittest.TestCase):
 
     def test_level_6_or_5(self) -> None:
         """Few ties with weights besides 1 are of level 6 with two disks lost, or of level 5 with one: both are said."""
-        few = Family((0, 1, 2), 40, 8, 900, "6", 0)
+        few = ImageGroup((0, 1, 2), 40, 8, 900, "6", 0)
         self.assertEqual(self.said(few), ["images 0, 1, 2: RAID 6 with 2 of 5 disks missing, or RAID 5 with 1 of 4. Parity matches in only 40 rows "
                                           "of those "
                                           "sampled, perhaps because the missing disks hold zeros in these"])
@@ -262,7 +263,7 @@ class UnlikeOffsets(unittest.TestCase):
         it = self.array(rows.striped(random.Random(9), 4, 5, 400))
         self.assertEqual(self.offsets(it, Shift(0, 2, 48, 40), Shift(1, 3, 16, 30)), [self.starts, (0, 0, 48, 16)])
         assert self.known
-        self.assertEqual((self.known.family.level, self.known.family.parity, self.known.begin), ("5", 1, 0))
+        self.assertEqual((self.known.group.level, self.known.group.parity, self.known.begin), ("5", 1, 0))
         self.assertEqual(unlike.Unlike(self.starts, self.known).line(),
                          "the data begin at different sectors of the images; parity matches at these: 16, 16, 64, 32")
 
@@ -307,10 +308,10 @@ class UnlikeOffsets(unittest.TestCase):
         self.assertEqual(self.offsets(it, *ring[:3]), [])
         found = self.offsets(it, *ring)
         assert self.known
-        self.assertEqual((found[0], self.known.family.parity, self.known.family.lost), (self.starts, 0, 1))
+        self.assertEqual((found[0], self.known.group.parity, self.known.group.lost), (self.starts, 0, 1))
 
     def test_time(self) -> None:
-        """No way is asked about where the sixth part of a trial's time is up."""
+        """No way is asked about where the sixth part of a step's time is up."""
         it = self.array(rows.striped(random.Random(9), 4, 5, 400))
         it[0].seconds = -1
         self.assertEqual(self.offsets(it, Shift(0, 2, 48, 40), Shift(1, 3, 16, 30)), [])
@@ -325,7 +326,7 @@ class UnlikeOffsets(unittest.TestCase):
         self.assertEqual(list(unlike.chosen([[1, 2], [3, 4, 5]], 1)), [(1, 4), (2, 3)])
         self.assertEqual(list(unlike.chosen([[1, 2], [3, 4, 5]], 3)), [(2, 5)])
         many = [Image(f"{number}.img", number, 464, first=8 * number) for number in range(9)]
-        self.assertEqual(len(unlike.ways(many, Distances((Shift(0, 1, 8, 40),)), {})), unlike.MOST_WAYS)
+        self.assertEqual(len(unlike.ways(many, Distances((Shift(0, 1, 8, 40),)), {})), unlike.MAX_WAYS)
 
     def test_guessed(self) -> None:
         """Distances that agree say the offsets, with the beginning that an image tells; not where they say nothing of one image or one number."""

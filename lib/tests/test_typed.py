@@ -77,7 +77,7 @@ class Lines(unittest.TestCase):
         """With the end by which they were found, where that is not the images'."""
         it = candidate("far2:8:0:0,1", verdict=whole())
         self.assertEqual(typed.commands(4, it, self.images[:2]).lines[0], "reraid-mount far2:8:0:0,1 candidate4 /x/a.img /x/b.img")
-        it.trial = dataclasses.replace(it.trial, copied=Copied((Copying("far", 2),), 2, end=80))
+        it.step = dataclasses.replace(it.step, copied=Copied((Copying("far", 2),), 2, end=80))
         self.assertEqual(typed.commands(4, it, self.images[:2]).lines[0], "reraid-mount --end 80 far2:8:0:0,1 candidate4 /x/a.img /x/b.img")
 
 

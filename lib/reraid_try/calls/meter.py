@@ -9,7 +9,7 @@ from collections.abc import Callable, Sequence
 from ..units import GIB
 
 # What one command may read of each image on average through what serves a volume, what all may after the first pass, and one in any case.
-MOST_OF_IMAGE, MOST_AFTER, LEAST_OF_IMAGE = 4 * GIB, 8 * GIB, GIB // 4
+MAX_OF_IMAGE, MAX_AFTER, MIN_OF_IMAGE = 4 * GIB, 8 * GIB, GIB // 4
 # Seconds between two looks at what was read.
 NEXT_LOOK = 0.1
 
@@ -70,8 +70,8 @@ def read_of_images() -> int:
 def left_for(images: int, first: int | None) -> int:
     """Return how many bytes a command may read of so many images, of which the first pass reads so many bytes of each; None if these are not
     large, so that all commands together have no bound."""
-    left = images * (MOST_OF_IMAGE if first is None else first + MOST_AFTER) - (0 if first is None else read_of_images())
-    return max(images * LEAST_OF_IMAGE, min(images * MOST_OF_IMAGE, left))
+    left = images * (MAX_OF_IMAGE if first is None else first + MAX_AFTER) - (0 if first is None else read_of_images())
+    return max(images * MIN_OF_IMAGE, min(images * MAX_OF_IMAGE, left))
 
 
 class Meter:

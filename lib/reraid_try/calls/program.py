@@ -11,15 +11,15 @@ from .formats import Checked, Page, Ranked
 from .plans import Plan
 from .sets import NEAR_2, Copying, Word
 
-# As many lines as a trial lists at most, and as many sets as one command looks at, at least; there are so many times as many such parts as jobs.
-MOST_LINES, SPAN, PARTS = 20_000, 4_000_000, 16
+# As many lines as a step lists at most, and as many sets as one command looks at, at least; there are so many times as many such parts as jobs.
+MAX_LINES, SPAN, PARTS = 20_000, 4_000_000, 16
 # The greatest rank, and the widest range.
 LAST = (1 << 64) - 1
 
 
 @dataclasses.dataclass(frozen=True)
 class Listing:
-    """What a trial listed: its sets, how many the plan has (None where others were not counted), whether all of them were looked at, and how many
+    """What a step listed: its sets, how many the plan has (None where others were not counted), whether all of them were looked at, and how many
     rows might be bad, where that was not known before."""
 
     sets: tuple[Ranked, ...]
@@ -29,7 +29,7 @@ class Listing:
     bad_rows: int | None = None
 
     def line(self) -> str:
-        """What is said of it."""
+        """Return it as one line of text."""
         count = counted(len(self.sets), "layout") if self.total is None else f"{len(self.sets)} of {counted(self.total, 'layout')}"
         return f"{count} {'passes' if len(self.sets) == 1 else 'pass'}" + (f" ({self.note})" if self.note else "")
 
@@ -65,8 +65,8 @@ class Program:
             raise refused(answer, "list")
         return total
 
-    def page(self, text: str, first: int = 0, span: int = LAST, most: int = MOST_LINES, seconds: int | None = None) -> Page:
-        """One page of a plan; what of it was put, where its time was up, which is that of a trial where nothing else is said."""
+    def page(self, text: str, first: int = 0, span: int = LAST, most: int = MAX_LINES, seconds: int | None = None) -> Page:
+        """One page of a plan; what of it was put, where its time was up, which is that of a step where nothing else is said."""
         words = ["reraid", "list", f"from={first}", f"span={span}", f"size={most}", "--", *self.names]
         answer = self.commands.run(words, text, self.seconds if seconds is None else seconds)
         if answer.status:
@@ -97,7 +97,7 @@ class Program:
                     task.cancel()
         if whole:
             return Listing(tuple(found), total, True)
-        return Listing(tuple(found), total, False, f"more than {len(found)} pass" if len(found) >= MOST_LINES else self.late_note())
+        return Listing(tuple(found), total, False, f"more than {len(found)} pass" if len(found) >= MAX_LINES else self.late_note())
 
     def late_note(self) -> str:
         """What is said where its time was up."""
@@ -122,7 +122,7 @@ class Program:
         words += [f"badrows={bad_rows}"] if bad_rows else []
         chunks = (8,) if all(it.is_striped(asked.members) for it in asked.layouts) else asked.chunks
         words += [f"chunks={listed(chunks)}"] if chunks else []
-        return [*words, f"window={window}", f"size={MOST_LINES}", "--", *self.names]
+        return [*words, f"window={window}", f"size={MAX_LINES}", "--", *self.names]
 
     def mirrors(self, words: list[str]) -> Page:
         """The sets of a RAID 10; what of them was put, where its time was up."""

@@ -8,7 +8,7 @@ from collections.abc import Sequence
 
 # How the copies of RAID 10 lie.
 NEAR, FAR, OFFSET = "near", "far", "offset"
-COPYING, MOST_COPIES = re.compile(r"(near|far|offset)([2-4])"), 4
+COPYING, MAX_COPIES = re.compile(r"(near|far|offset)([2-4])"), 4
 
 
 @dataclasses.dataclass(frozen=True)

@@ -14,9 +14,9 @@ LATER_KINDS = ("extinode", "xfs5", "btrfstree")
 # The status of words that are none of the program's.
 REFUSED = 1
 # As many offsets, or origins, as a plan has at most.
-MOST_VALUES = 64
+MAX_VALUES = 64
 # As many marks as the two copies of a file record have on one image, with their mirrors.
-MOST_COPIES = 4
+MAX_COPIES = 4
 
 
 @dataclasses.dataclass(frozen=True)
@@ -73,7 +73,7 @@ def first_records(plan: Plan) -> list[str]:
         if records:
             least = min(mark.nearest for mark in records)
             rules = {mark.rule for mark in records if mark.nearest == least}
-            found += [rule for rule in rules if sum(mark.rule == rule for mark in records) > MOST_COPIES]
+            found += [rule for rule in rules if sum(mark.rule == rule for mark in records) > MAX_COPIES]
     return found
 
 
@@ -131,7 +131,7 @@ class Surveys:
         plan = self.seen(request)
         asked: dict[str, str | int] = {name: value for name, value in request.operands if name in plans.FIELDS}
         origins = {int(it) for it in request.get("origins", "0").split(",")} | set(plan.numbers("origins"))
-        asked["origins"] = listed(sorted(origins)[:MOST_VALUES])
+        asked["origins"] = listed(sorted(origins)[:MAX_VALUES])
         end = request.number("end")
         plan = dataclasses.replace(plan.having(window=max(end, 1)).having(**asked), end=end)
         if request.is_each:

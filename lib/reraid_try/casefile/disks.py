@@ -10,14 +10,14 @@ from .record import Event, Record
 from .strips import CELLS
 
 # So many parts has the scale, and so many sets of images that stand together are named.
-PARTS, MOST_TOGETHER = 4, 6
+PARTS, MAX_TOGETHER = 4, 6
 KINDS = ("gpt", "ntfs", "xfs", "btrfs", "lvm", "ext")
 LOWER, UPPER, MIDDLE, TICKS = "M0 7h22v7h-22z", "M0 0h22v7h-22z", "M6 0h10v14h-10z", "M7 0V14M15 0V14"
 # Why sectors count as unread.
 BY_MAP = "by the ddrescue mapfile"
 BY_TEXT = "inferred: a repeated text is there, and parity is not consistent in it; no mapfile lists it"
 # The least height of a bar of something.
-LEAST = 12
+MIN = 12
 
 
 def scale(length: int) -> list[str]:
@@ -106,7 +106,7 @@ class Disks:
         if not strip:
             return None
         wide, filled = strip["cell"], strip["filled"]
-        bars = tuple(Bar(k * wide, (k + 1) * wide, "data", max(LEAST, part)) for k, part in enumerate(filled) if part)
+        bars = tuple(Bar(k * wide, (k + 1) * wide, "data", max(MIN, part)) for k, part in enumerate(filled) if part)
         return Lane("data", f"data in {sum(bool(part) for part in filled)} of {len(filled)} parts", bars)
 
     def unread(self, image: Event) -> list[list[int]]:
@@ -155,8 +155,8 @@ class Disks:
         if not told:
             return ""
         together = told["together"]
-        rows = [f"images {', '.join(map(str, it['images']))} match in {counted(it['rows'], 'row')}" for it in together[:MOST_TOGETHER]]
-        rows += [f"{len(together) - MOST_TOGETHER} more combinations of images match in fewer rows"] if len(together) > MOST_TOGETHER else []
+        rows = [f"images {', '.join(map(str, it['images']))} match in {counted(it['rows'], 'row')}" for it in together[:MAX_TOGETHER]]
+        rows += [f"{len(together) - MAX_TOGETHER} more combinations of images match in fewer rows"] if len(together) > MAX_TOGETHER else []
         rows += [f"parity matches nothing in any row: images {', '.join(map(str, told['alone']))}"] if told["alone"] else []
         rows += [f"{told['free']} of {told['total']} sampled rows match nothing; rows of zeros count as such"] if told["total"] else []
         return soft("Which images parity matches, over all sampled rows:") + bullets(rows)

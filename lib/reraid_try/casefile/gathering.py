@@ -11,7 +11,7 @@ from ..errors import OutsideError, said
 from ..evidence.images import Image
 from ..evidence.maps import Map
 from ..evidence.relations import Relations
-from ..evidence.ties import MOST_ROWS, Ties
+from ..evidence.ties import MAX_ROWS, Ties
 from ..opening import Opened
 from ..options import LEVELS, Options
 from ..policy.search import Search
@@ -22,7 +22,7 @@ from .strips import Hashing, Strip
 from .writing import PageFile
 
 # So many landmarks of a kind on an image are drawn; more are thinned out.
-MOST_MARKS = 2000
+MAX_MARKS = 2000
 # What this search knows nothing of.
 UNKNOWN = "not searched at all: RAID 10 with near and far copies at once or with far_sets, RAID 50 and 60 as one array. Also not: RAID 5E and the " \
           "like, arrays in mid-reshape, RAID 0 over disks of unequal size"
@@ -44,7 +44,7 @@ def unread(it: Map | None, sectors: int) -> list[list[int]]:
 
 def thinned(places: Collection[int]) -> list[int]:
     """Places in order, at even distances in their list where they are many."""
-    step = max(1, -(-len(places) // MOST_MARKS))
+    step = max(1, -(-len(places) // MAX_MARKS))
     return sorted(places)[::step]
 
 
@@ -121,7 +121,7 @@ class Casefile:
         """How the images depend on one another, row by row; nothing where that is not to be had."""
         self.report.bar.show("tests which images parity matches")
         end = min(image.sectors for image in images)
-        step = max(1, -(-end // MOST_ROWS))
+        step = max(1, -(-end // MAX_ROWS))
         found = Ties(self.commands, images, self.options.seconds).relations([image.number for image in images], 0, end, step)
         if found:
             self.report.tell("relations", **fields(found))
@@ -129,7 +129,7 @@ class Casefile:
     def marks(self, search: Search) -> None:
         """The landmarks that some survey found, by their kinds."""
         kinds: dict[str, dict[int, set[int]]] = {}
-        for mark, kind in ((mark, group.kind) for hunt in search.hunts for group in hunt.plan.groups for mark in group.marks):
+        for mark, kind in ((mark, group.kind) for scope in search.scopes for group in scope.plan.groups for mark in group.marks):
             kinds.setdefault(kind, {}).setdefault(mark.image, set()).add(mark.sector)
         for kind, places in kinds.items():
             self.report.tell("marks", kind=kind, marks=[[image, sector] for image, found in sorted(places.items()) for sector in thinned(found)])
@@ -179,7 +179,7 @@ def left_out(search: Search, ended: bool) -> Iterator[str]:
     if ended:
         yield "the run was interrupted; all later steps are missing"
     yield from shapes_left(search)
-    if not ended and search.hunts and not any(len(hunt.evidence.images) == len(search.images) for hunt in search.hunts):
+    if not ended and search.scopes and not any(len(scope.evidence.images) == len(search.images) for scope in search.scopes):
         yield "the search over all images together, since what was found before it was enough"
     left = [level for level in LEVELS if level not in options.levels]
     if left:
@@ -188,7 +188,7 @@ def left_out(search: Search, ended: bool) -> Iterator[str]:
         yield f"numbers of disks other than {', '.join(map(str, options.members))}, because of --members"
     if search.tests.put_off:
         yield f"{counted(len(search.tests.put_off), 'layout')} that passed, deferred and then not checked"
-    passed_over = sum(hunt.passed_over for hunt in search.hunts)
+    passed_over = sum(scope.passed_over for scope in search.scopes)
     if passed_over:
         yield f"{counted(passed_over, 'step')} skipped, since landmarks by themselves, or parity by itself, allow no layout"
     yield UNKNOWN
@@ -196,10 +196,10 @@ def left_out(search: Search, ended: bool) -> Iterator[str]:
 
 def shapes_left(search: Search) -> Iterator[str]:
     """The shapes without a search step."""
-    window = max((hunt.evidence.window for hunt in search.hunts), default=0)
+    window = max((scope.evidence.window for scope in search.scopes), default=0)
     if window:
         yield f"parity was tested over at most {counted(window, 'sector')} of each disk in a step"
-    shapes = dict.fromkeys(shape.line() for hunt in search.hunts for shape in hunt.shapes.tiers().all)
+    shapes = dict.fromkeys(shape.line() for scope in search.scopes for shape in scope.shapes.tiers().all)
     left = [line for line in shapes if line not in search.shapes_tried]
     if left:
         yield "no search step for: " + "; ".join(left)

@@ -10,10 +10,10 @@ from .record import Event, Record
 from .style import STYLE
 
 # How high unsound rows are drawn at least, of HEIGHT, so that they are seen.
-LEAST_UNSOUND = 20
+MIN_UNSOUND = 20
 ABOUT = """This page reports what one run of reraid-try read, tried and found. reraid-try only reads the images. It does not choose between
 candidates: each listed layout passed the tests that are named beside it."""
-SIGNS = """++: long files are intact or all data checksums match, and no file system checker reports errors. +: only a checker reports no errors, or
+RATINGS = """++: long files are intact or all data checksums match, and no file system checker reports errors. +: only a checker reports no errors, or
 the rating was lowered. A candidate rated + may be wrong: open files before you rely on it."""
 PROVED = """It is proved that the program reraid lists exactly the layouts that pass, and that it writes exactly the volume of a layout. The search
 and this page come from a script that is tested, and not proved."""
@@ -38,20 +38,20 @@ HEAD = """<!DOCTYPE html>
 """
 WHOLE = "M0 0h22v14h-22z"
 # The most names of files that stand in a list.
-MOST_FILES = 500
+MAX_FILES = 500
 # The lines above what is to be typed, and above what ends that.
 TYPED, ENDS = "to mount it read-only, as root:", "to undo that:"
 # The events that say what was taken from the images, and those that say what was not tried or not to its end.
 SAID = ("resume", "taken over", "fill", "place", "relation", "metadata", "copies", "unlike", "reason", "group", "hint", "pairs")
 LEFT = ("not tried", "late", "failed", "many", "put off", "doubtful", "begins")
-TRIALS = (("step", True), ("what", False), ("why", False), ("relaxed", False), ("layouts", True), ("outcome", False))
+STEPS = (("step", True), ("what", False), ("why", False), ("relaxed", False), ("layouts", True), ("outcome", False))
 CANDIDATES = (("candidate", True), ("rating", False), ("layout", False), ("relaxed", False), ("rows and landmarks", False), ("its volume", False))
 
 
-def sign(candidate: Event) -> str:
-    """The sign of a candidate; nothing where it has none."""
+def rating(candidate: Event) -> str:
+    """The rating of a candidate; nothing where it has none."""
     told = "+" * max(0, int(candidate.get("score", 0)) - 1)
-    return f'<span class="sign">{told}</span>' if told else ""
+    return f'<span class="rating">{told}</span>' if told else ""
 
 
 def beside(told: str) -> tuple[list[str], list[str]]:
@@ -70,7 +70,7 @@ class Page:
 
     def whole(self) -> str:
         """All of it."""
-        parts = [self.head(), self.best(), self.terms(), self.lost_files(), Disks(self.record).made(), self.said(), self.trials(), self.not_tried(),
+        parts = [self.head(), self.best(), self.terms(), self.lost_files(), Disks(self.record).made(), self.said(), self.steps(), self.not_tried(),
                  self.candidates(), self.nearest(), self.made_with()]
         title = f"reraid-try, {self.run['began']}" if self.run else "reraid-try"
         return HEAD.format(title=text(title), style=STYLE) + "\n".join(filter(None, parts)) + "\n</body>\n</html>\n"
@@ -93,7 +93,7 @@ class Page:
                 continue
             candidate: Event = next((one for one in self.found if one["class"] == it["class"]), {})
             (head, *said), rest = beside(it["text"])
-            part = f"<p><b>{sign(candidate)} {text(head)}</b></p>" + "".join(f"<p>{text(line)}</p>" for line in said)
+            part = f"<p><b>{rating(candidate)} {text(head)}</b></p>" + "".join(f"<p>{text(line)}</p>" for line in said)
             lines = "\n".join(it.get("commands", []))
             part += soft("To mount it read-only, as root:") + f"<pre>{text(lines)}</pre>" if lines else ""
             ends = "\n".join(it.get("ends", []))
@@ -102,7 +102,7 @@ class Page:
             made.append(f'<div class="verdict">{part}</div>')
         if not made:
             return f'<div class="verdict none">{self.answer() or f"<p>{NO_GOOD}</p>"}</div>'
-        return section("The best candidates", soft(text(SIGNS)), *made)
+        return section("The best candidates", soft(text(RATINGS)), *made)
 
     def terms(self) -> str:
         """Return the box with the terms of this page."""
@@ -111,8 +111,8 @@ class Page:
     def lost_files(self) -> str:
         """Return which files of the best volume touch what is lost."""
         told = [(it["text"], it["files"]) for it in self.record.of("lost files")]
-        more = [[f"and {len(files) - MOST_FILES:,} more"] * (len(files) > MOST_FILES) for _, files in told]
-        made = (f"<p>{text(said)}</p>" + bullets([*files[:MOST_FILES], *rest]) for (said, files), rest in zip(told, more))
+        more = [[f"and {len(files) - MAX_FILES:,} more"] * (len(files) > MAX_FILES) for _, files in told]
+        made = (f"<p>{text(said)}</p>" + bullets([*files[:MAX_FILES], *rest]) for (said, files), rest in zip(told, more))
         return section("Files that touch lost sectors", *made) if told else ""
 
     def answer(self) -> str:
@@ -127,23 +127,23 @@ class Page:
         hints = bullets(dict.fromkeys(it["text"].strip() for it in self.record.of(*SAID)))
         return section("Evidence from the images", hints) if hints else ""
 
-    def trials(self) -> str:
-        """What was tried: the reasons, what was loosened, and what came of it."""
+    def steps(self) -> str:
+        """What was tried: the reasons, what was relaxed, and what came of it."""
         rows = [(str(it["number"]), text(it["shape"]), text(it.get("reason", "")), text(" and ".join(it["loosened"]) or "nothing"),
                  f"{it['listed']:,}" + ("" if it["total"] is None else f" of {it['total']:,}"), text(self.outcome(it)))
                 for it in self.record.of("trial")]
-        return section("What was tried", table(TRIALS, rows)) if rows else ""
+        return section("What was tried", table(STEPS, rows)) if rows else ""
 
-    def outcome(self, trial: Event) -> str:
-        """What came of a trial: its note, and which candidates are of it."""
-        classes = [int(it["class"]) for it in self.found if it.get("trial") == trial["number"]]
-        told = [trial["note"]] if trial.get("note") else []
-        told += ["its layouts were deferred"] if trial["number"] in self.put_off() else []
-        told += [f"candidates: {runs(classes)}"] if classes else ["no new candidate" if trial["listed"] else "no layout passes"]
+    def outcome(self, step: Event) -> str:
+        """What came of a step: its note, and which candidates are of it."""
+        classes = [int(it["class"]) for it in self.found if it.get("trial") == step["number"]]
+        told = [step["note"]] if step.get("note") else []
+        told += ["its layouts were deferred"] if step["number"] in self.put_off() else []
+        told += [f"candidates: {runs(classes)}"] if classes else ["no new candidate" if step["listed"] else "no layout passes"]
         return "; ".join(told)
 
     def put_off(self) -> set[int]:
-        """The trials whose sets were put off, which is said right behind each."""
+        """The steps whose sets were put off, which is said right behind each."""
         found, number = set(), 0
         for it in self.record.of("trial", "put off"):
             if it["event"] == "trial":
@@ -163,7 +163,7 @@ class Page:
         if not self.found:
             why = "no layout passed in any step" if self.record.last("trial") else "there was no search step"
             return section("Candidates", rest or f"<p>None: {why}.</p>")
-        rows = [(str(it["class"]), sign(it), "<br>".join(code(word) for word in (it["set"], *it.get("alike", []))),
+        rows = [(str(it["class"]), rating(it), "<br>".join(code(word) for word in (it["set"], *it.get("alike", []))),
                  text(" and ".join(it["loosened"]) or "nothing"), text(self.fits(it)), text(self.volume(it))) for it in self.found]
         about = soft("Layouts below one another give the same volume. Of landmarks, the first number counts matches, the second mismatches.")
         return section("Candidates", about, table(CANDIDATES, rows), rest, *(self.parity(it) for it in self.record.of("parity")))
@@ -195,7 +195,7 @@ class Page:
     def region(self, it: Event) -> list[Bar]:
         """The bars of a region: its unsound rows above, the others below."""
         first, last = it["first"], it["first"] + it["rows"]
-        bad = max(LEAST_UNSOUND, HEIGHT * it["unsound"] // it["tested"]) if it["unsound"] else 0
+        bad = max(MIN_UNSOUND, HEIGHT * it["unsound"] // it["tested"]) if it["unsound"] else 0
         return ([Bar(first, last, "sound", HEIGHT - bad)] if bad < HEIGHT else []) + ([Bar(first, last, "unsound", bad, HEIGHT - bad)] if bad else [])
 
     def nearest(self) -> str:

@@ -10,7 +10,7 @@ from ..calls.sets import Word, made
 from ..checks.candidates import Candidate
 
 # So many parts, and so many rows of each; of fewer parts more rows of each, as many in all.
-PARTS, MOST_ROWS = 64, 2048
+PARTS, MAX_ROWS = 64, 2048
 
 
 @dataclasses.dataclass(frozen=True)
@@ -44,18 +44,18 @@ def moved(word: Word, by: int) -> Word:
 
 def regions(it: Candidate, jobs: int) -> list[Region]:
     """The parts of a candidate, of which parity tells something; none of others."""
-    request = it.trial.request
+    request = it.step.request
     if it.listed is None or request is None or it.word.is_mirrored or it.listed.spare < 1:
         return []
     word: Word = it.listed
-    hunt, end = it.hunt, min(image.sectors for image in it.hunt.evidence.images)
-    bare = dataclasses.replace(hunt.surveys.plan(request).bare().having(badrows=0), end=end)
+    scope, end = it.scope, min(image.sectors for image in it.scope.evidence.images)
+    bare = dataclasses.replace(scope.surveys.plan(request).bare().having(badrows=0), end=end)
     parts = cut(word, end)
     most = rows_of_each(len(parts))
 
     def ask(part: tuple[int, int]) -> Region:
         first, rows = part
-        told: Checked | None = hunt.program.check(moved(word, first).text, windowed(bare, min(rows, most)))
+        told: Checked | None = scope.program.check(moved(word, first).text, windowed(bare, min(rows, most)))
         return Region(first, rows, told.rows, told.unsound) if told else Region(first, rows)
     with concurrent.futures.ThreadPoolExecutor(jobs) as pool:
         return list(pool.map(ask, parts))
@@ -63,7 +63,7 @@ def regions(it: Candidate, jobs: int) -> list[Region]:
 
 def rows_of_each(parts: int) -> int:
     """How many rows of each of so many parts are tested at most."""
-    return PARTS * MOST_ROWS // max(1, parts)
+    return PARTS * MAX_ROWS // max(1, parts)
 
 
 def windowed(plan: Plan, rows: int) -> Plan:

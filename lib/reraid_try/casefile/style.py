@@ -44,7 +44,7 @@ td[data-name="loosened"] { min-width: 8em; } td[data-name="outcome"] { min-width
 td.n { min-width: 0; }
 td.n, th.n { text-align: right; white-space: nowrap; }
 tr { break-inside: avoid; }
-.sign { font-weight: 700; white-space: nowrap; }
+.rating { font-weight: 700; white-space: nowrap; }
 dl { display: grid; grid-template-columns: max-content 1fr; gap: .2rem 1rem; margin: .5rem 0; font-size: .9rem; }
 dt { color: var(--soft); } dd { margin: 0; overflow-wrap: anywhere; min-width: 0; }
 ul.plain { padding-left: 1.2em; margin: .4rem 0; } ul.plain li { margin: .15rem 0; overflow-wrap: anywhere; }

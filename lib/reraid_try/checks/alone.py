@@ -9,10 +9,10 @@ from .systems import System
 from .verdicts import Verdict
 from .volumes import Region, Room, Volume
 
-# Seconds by which a checker of one image is limited, as of a trial: it may take ten times as long.
+# Seconds by which a checker of one image is limited, as of a step: it may take ten times as long.
 SECONDS = 2
 # The most bytes of a file system that is copied for its checker, which takes no place within a file.
-MOST_COPIED = GIB
+MAX_COPIED = GIB
 # A file that is whole and as long as this is longer than the chunks of most arrays.
 LONG = 1 << 20
 
@@ -26,7 +26,7 @@ class Alone(Checkers):
     def ask(self, system: System, volume: Volume, region: Region, length: int, meter: Meter | None) -> Answer | None:
         """What the checker of a region says; None if the region would have to be copied and is long."""
         placed = system.at or region.length == volume.length
-        return super().ask(system, volume, region, length, meter) if placed or length <= MOST_COPIED else None
+        return super().ask(system, volume, region, length, meter) if placed or length <= MAX_COPIED else None
 
     def verdict(self, image: Image, first: int) -> Verdict:
         """Return what is in an image by itself, with what begins at a sector."""

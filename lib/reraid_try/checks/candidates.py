@@ -7,18 +7,18 @@ from typing import Optional
 from ..calls.formats import Held
 from ..calls.plans import Plan
 from ..calls.sets import Word
-from ..policy.hunt import Hunt
-from ..policy.trials import Trial
+from ..policy.scope import Scope
+from ..policy.steps import Step
 from .verdicts import Score, Verdict
 
 # A set of which more than one in so many filled rows is unsound is doubtful.
-MOST_UNSOUND = 2
-# Why a set has no sign that marks speak against.
+MAX_UNSOUND = 2
+# Why a set has no rating that marks speak against.
 AGAINST = "some landmarks contradict it, and no file that was found is intact"
 # What is said where a volume at level 0 ends too soon and its images differ in length.
 UNEQUAL = "the images differ in length, and RAID 0 that continues on only the longer disks is not searched"
 # So many sets of one volume are said in words.
-MOST_ALIKE = 3
+MAX_ALIKE = 3
 
 
 @dataclasses.dataclass(frozen=True)
@@ -31,7 +31,7 @@ class Inside:
 
 @dataclasses.dataclass
 class Candidate:
-    """A set that passed a trial of a hunt. `word` is the simplest set of its volume; `listed` that which was listed, by the images of the hunt, None
+    """A set that passed a step of a scope. `word` is the simplest set of its volume; `listed` that which was listed, by the images of the scope, None
     for RAID 10 by its copies. `alike` has the other sets of its class, `groups` what `check` says of each group, `unsound` how many rows are
     unsound, None where that was not asked; `doubted` says that as much speaks against it for another reason, `left_most` that a group with most of
     the marks was left out, and does not hold, `rivalled` how another candidate contradicts it that has more for itself. `rows` says in which rows
@@ -41,8 +41,8 @@ class Candidate:
 
     word: Word
     rank: int
-    trial: Trial
-    hunt: Hunt
+    step: Step
+    scope: Scope
     listed: Word | None = None
     alike: list[str] = dataclasses.field(default_factory=list)
     groups: tuple[Held, ...] = ()
@@ -75,12 +75,12 @@ class Candidate:
     @property
     def end(self) -> int | None:
         """Where its members end, where that is another place than the end of the shortest image and its volume depends on it; None else."""
-        copied = self.trial.copied
+        copied = self.step.copied
         return copied.end if copied and self.word.needs_end else None
 
     @property
     def lessened(self) -> bool:
-        """There is one sign less: a group with most of the marks was left out. One sign is left where files tell the order of the chunks."""
+        """There is one plus less: a group with most of the marks was left out. One plus is left where files tell the order of the chunks."""
         return self.left_most and self.found.score >= Score.CHECKED and not self.found.in_order
 
     @property
@@ -90,7 +90,7 @@ class Candidate:
 
     @property
     def doubts(self) -> list[str]:
-        """Why it has no sign, or one less."""
+        """Why it has no rating, or one less."""
         kept = self.left_most and self.found.in_order
         left = ["a landmark group with most landmarks was left out"] * (self.left_most and not kept)
         against = [AGAINST] * (self.spoken_against and self.found.score >= Score.CHECKED)
@@ -102,18 +102,18 @@ class Candidate:
         """At level 0 a file system is longer than the volume, and the images differ in length: the longer ones may go on in rows of fewer disks."""
         if self.word.level != "0" or not self.found.doubts or not any(finding.too_long for finding in self.found.findings):
             return False
-        return len({image.sectors for image in self.hunt.evidence.images}) > 1
+        return len({image.sectors for image in self.scope.evidence.images}) > 1
 
     @property
     def alike_said(self) -> str:
         """The sets that its volume does not tell from it; nothing where there are none."""
-        more = f" and {len(self.alike) - MOST_ALIKE} more" if len(self.alike) > MOST_ALIKE else ""
-        return f"same volume, cannot be told apart: {' '.join(self.alike[:MOST_ALIKE])}{more}" if self.alike else ""
+        more = f" and {len(self.alike) - MAX_ALIKE} more" if len(self.alike) > MAX_ALIKE else ""
+        return f"same volume, cannot be told apart: {' '.join(self.alike[:MAX_ALIKE])}{more}" if self.alike else ""
 
     @property
     def mostly_unsound(self) -> bool:
         """Most of the filled rows are unsound, as far as was asked."""
-        return MOST_UNSOUND * (self.unsound or 0) > self.hunt.evidence.filled
+        return MAX_UNSOUND * (self.unsound or 0) > self.scope.evidence.filled
 
     @property
     def doubtful(self) -> bool:
@@ -127,8 +127,8 @@ class Candidate:
 
     @property
     def order(self) -> tuple[int, int, int]:
-        """What it is tested by: how much was loosened, the trial, the rank."""
-        return len(self.trial.cures), self.trial.number, self.rank
+        """What it is tested by: how much was relaxed, the step, the rank."""
+        return len(self.step.relaxations), self.step.number, self.rank
 
     @property
     def fits(self) -> int:
@@ -137,14 +137,14 @@ class Candidate:
 
     @property
     def place(self) -> tuple[int, int, tuple[int, str, int], tuple[int, int, int]]:
-        """What it is printed by: the sign, how many more marks fit than do not, the members, and the order of tests."""
+        """What it is printed by: the rating, how many more marks fit than do not, the members, and the order of tests."""
         return -max(self.score, Score.KNOWN), -self.fits, self.word.simplicity, self.order
 
 
-def left_most(trial: Trial, plan: Plan, groups: Sequence[Held]) -> bool:
-    """The groups that a trial left out of a plan, and that do not hold either, have most of its marks. `groups` has what `check` says of each."""
+def left_most(step: Step, plan: Plan, groups: Sequence[Held]) -> bool:
+    """The groups that a step left out of a plan, and that do not hold either, have most of its marks. `groups` has what `check` says of each."""
     left = 0
     for group, held in zip(plan.groups, groups):
-        if group.place in trial.out and (held.origin is None or held.doubtful):
+        if group.place in step.out and (held.origin is None or held.doubtful):
             left += len(group.marks)
     return 2 * left > len(plan.marks())

@@ -19,7 +19,7 @@ from .verdicts import MANY_FILES, Finding, Score, Verdict
 from .volumes import Region, Room, Volume
 
 BLKID = "blkid"
-# A checker may take so many times as long as a trial, and files are looked for so many times as long.
+# A checker may take so many times as long as a step, and files are looked for so many times as long.
 CHECKED_TIMES, FILES_TIMES = 10, 2
 # What a fault says little of, which a checker found in a volume whose end was not written.
 CUT = ", over only its first bytes, for lack of space; this tells nothing about the rest"
@@ -27,10 +27,10 @@ CUT = ", over only its first bytes, for lack of space; this tells nothing about 
 THIN = "thin volumes, which only LVM2 reads, so intact files decide:"
 # What is said where there is no checker of a file system, and where one found only that it was not unmounted.
 UNCHECKED, MINOR = "no checker, so intact files decide", ", only that it was not unmounted, so intact files decide"
-# Long files are read at the borders of chunks for this part of the time of a trial.
+# Long files are read at the borders of chunks for this part of the time of a step.
 JOINTS_PART = 4
 # A volume may lack so much of a region at its end.
-MOST_LACKING = 4
+MAX_LACKING = 4
 
 
 def is_there(tool: str) -> bool:
@@ -49,7 +49,7 @@ def lacking(length: int, there: int) -> int:
     """How many bytes of a region of so many lie behind the end of a volume that has so many of them; 0 where that is too much to be the end of a
     volume that was cut."""
     lacks = max(0, length - there)
-    return lacks if MOST_LACKING * lacks <= length else 0
+    return lacks if MAX_LACKING * lacks <= length else 0
 
 
 def seen_length(system: System, told: int, there: int, lacks: int) -> int:
@@ -243,10 +243,10 @@ class Checkers:
         size = block_of(read_at(volume.path, place.first, LENGTH_BYTES))
         blocks = lost_files.blocks_of(runs, size)
         if at:
-            found = tell(self.commands, Asked(volume.path, place.first, blocks[:lost_files.MOST_BLOCKS], size), CHECKED_TIMES * self.seconds)
+            found = tell(self.commands, Asked(volume.path, place.first, blocks[:lost_files.MAX_BLOCKS], size), CHECKED_TIMES * self.seconds)
         else:
             with self.room.region(volume, Region("", (place,)), place.length) as path:
-                asked = Asked(path or "", 0, blocks[:lost_files.MOST_BLOCKS], size)
+                asked = Asked(path or "", 0, blocks[:lost_files.MAX_BLOCKS], size)
                 found = tell(self.commands, asked, CHECKED_TIMES * self.seconds) if path else None
         return LostFiles(where, sectors, *lost_files.told(found, len(blocks), it.kind))
 

@@ -4,30 +4,30 @@ import dataclasses
 from collections.abc import Mapping, Sequence
 
 from ..calls.sets import simplest
-from ..policy import cures
-from ..policy.cures import Family
+from ..policy import relaxations
+from ..policy.relaxations import RelaxationKind
 from .candidates import Candidate
 from .joints import duel
 from .verdicts import Score
 
-# So many sets of a trial are looked at without images, those with the fewest unsound rows.
-MOST_SETS = 3
+# So many sets of a step are looked at without images, those with the fewest unsound rows.
+MAX_SETS = 3
 # With so many images to spare parity tells which are bad.
 TELLING = 2
 
 
 def doubted(tested: Sequence[Candidate], mapped: bool) -> list[Candidate]:
-    """The candidates of a trial that have unsound rows, but not most, and can lose an image: those that are whole, where one is; none then where maps
+    """The candidates of a step that have unsound rows, but not most, and can lose an image: those that are whole, where one is; none then where maps
     say what could not be read."""
     found = [it for it in tested if it.unsound and not it.mostly_unsound and it.listed and len(it.word.offsets) == 1 and it.word.spare > 0]
     if any(it.score is Score.WHOLE for it in tested):
         found = [it for it in found if it.score is Score.WHOLE and not mapped]
-    return sorted(found, key=lambda it: (it.unsound or 0, it.order))[:MOST_SETS]
+    return sorted(found, key=lambda it: (it.unsound or 0, it.order))[:MAX_SETS]
 
 
 def blamed(candidate: Candidate, counts: Mapping[int, int]) -> list[int]:
     """The images without which fewer rows are unsound, that with the most first: `counts` has the unsound rows without each image, by its place in
-    the hunt."""
+    the scope."""
     return sorted((image for image, count in counts.items() if count < (candidate.unsound or 0)), key=lambda image: counts[image])
 
 
@@ -44,9 +44,9 @@ def is_better(candidate: Candidate, whole: Candidate) -> bool:
 
 
 def lesser(candidate: Candidate, images: frozenset[int]) -> Candidate:
-    """A candidate without these images, by their places in its hunt."""
-    listed, trial, hunt = (candidate.listed or candidate.word).without(images), candidate.trial, candidate.hunt
-    name = f"without {' and '.join(f'image {number}' for number in sorted(hunt.evidence.images[image].number for image in images))}"
-    shape = dataclasses.replace(trial.shape, missing=listed.lost)
-    trial = dataclasses.replace(trial, shape=shape, cures=(*trial.cures, cures.told(name, Family.LEFT_OUT)))
-    return Candidate(simplest(hunt.word(listed.text)), candidate.rank, trial, hunt, listed=listed, whole=candidate)
+    """A candidate without these images, by their places in its scope."""
+    listed, step, scope = (candidate.listed or candidate.word).without(images), candidate.step, candidate.scope
+    name = f"without {' and '.join(f'image {number}' for number in sorted(scope.evidence.images[image].number for image in images))}"
+    shape = dataclasses.replace(step.shape, missing=listed.lost)
+    step = dataclasses.replace(step, shape=shape, relaxations=(*step.relaxations, relaxations.told(name, RelaxationKind.LEFT_OUT)))
+    return Candidate(simplest(scope.word(listed.text)), candidate.rank, step, scope, listed=listed, whole=candidate)

@@ -16,10 +16,10 @@ REGULAR, KINDS = 0x8000, 0xF000
 NO_INODES = 1
 # So many groups are looked at, so many parts of the table of each, of so many bytes, and so many bytes of descriptors. An extent of more blocks is
 # not written yet.
-MOST_GROUPS, MOST_PARTS, PART, MOST_DESCRIPTORS, MOST_BLOCKS = 64, 16, 32 * KIB, 64 * MIB, 32768
+MAX_GROUPS, MAX_PARTS, PART, MAX_DESCRIPTORS, MAX_BLOCKS = 64, 16, 32 * KIB, 64 * MIB, 32768
 # Shorter files tell little.
-LEAST_BYTES = 4 * KIB
-MOST_DEPTH, MOST_LEAVES = 3, 16
+MIN_BYTES = 4 * KIB
+MAX_DEPTH, MAX_LEAVES = 3, 16
 
 
 class Tables:
@@ -46,7 +46,7 @@ class Tables:
 
     def used(self) -> list[tuple[int, int]]:
         """Return of each group that has files the byte of its table of inodes, and how many of these may be in use."""
-        count = min(self.groups, MOST_DESCRIPTORS // self.descriptor)
+        count = min(self.groups, MAX_DESCRIPTORS // self.descriptor)
         data = self.read(self.first + (self.start + 1) * self.block, count * self.descriptor)
         found = []
         for at in range(0, len(data) - self.descriptor + 1, self.descriptor):
@@ -74,9 +74,9 @@ class Tables:
     def files(self) -> Iterator[Mapped]:
         """Yield files of groups all over the file system."""
         used = self.used() if self.good else []
-        for number in picked(len(used), MOST_GROUPS):
+        for number in picked(len(used), MAX_GROUPS):
             table, count = used[number]
-            for part in picked(-(-count * self.size // PART), MOST_PARTS):
+            for part in picked(-(-count * self.size // PART), MAX_PARTS):
                 data = self.read(table + part * PART, min(PART, count * self.size - part * PART))
                 for at in range(0, len(data) - self.size + 1, self.size):
                     if found := self.file(data[at:at + self.size]):
@@ -89,15 +89,15 @@ class Tables:
         deleted, = struct.unpack_from("<I", inode, 20)
         flags, = struct.unpack_from("<I", inode, 32)
         size = struct.unpack_from("<I", inode, 4)[0] + (struct.unpack_from("<I", inode, 108)[0] << 32)
-        if mode & KINDS != REGULAR or not links or deleted or not flags & HAS_EXTENTS or flags & UNREADABLE or size < LEAST_BYTES:
+        if mode & KINDS != REGULAR or not links or deleted or not flags & HAS_EXTENTS or flags & UNREADABLE or size < MIN_BYTES:
             return None
-        found = self.extents(inode[40:100], MOST_DEPTH)
+        found = self.extents(inode[40:100], MAX_DEPTH)
         return Mapped(size, tuple(found)) if found and found[0].at == 0 else None
 
     def extents(self, node: bytes, depth: int) -> Sequence[Extent] | None:
         """Return the extents of a node of a tree of them; None where it is none, or has some that are not written."""
         magic, count, _, height = struct.unpack_from("<HHHH", node, 0)
-        if magic != EXTENTS_MAGIC or height > depth or 12 * (count + 1) > len(node) or height and count > MOST_LEAVES:
+        if magic != EXTENTS_MAGIC or height > depth or 12 * (count + 1) > len(node) or height and count > MAX_LEAVES:
             return None
         found: list[Extent] = []
         for at in range(12, 12 * (count + 1), 12):
@@ -109,7 +109,7 @@ class Tables:
                 found += inner
             else:
                 logical, length, high, low = struct.unpack_from("<IHHI", node, at)
-                if length > MOST_BLOCKS:
+                if length > MAX_BLOCKS:
                     return None
                 found.append(Extent(logical * self.block, self.first + (low + (high << 32)) * self.block, length * self.block))
         return found

@@ -17,7 +17,7 @@ from ..units import KIB, SECTOR
 from . import wholes
 
 # The most starts of files that are looked at, and the most files that are read.
-MOST_STARTS, MOST_READ = 1 << 14, 512
+MAX_STARTS, MAX_READ = 1 << 14, 512
 # Bytes that a file is read at once, and bytes of wrong data that a decoder may take for right ones before it notices: 1 in 60 files takes more.
 FINE, UNNOTICED = 4 * KIB, 32 * KIB
 # Kinds of files whose decoders notice wrong data at once.
@@ -102,9 +102,9 @@ class Grid:
 
 def starts_of(file: BinaryIO, last: int, grid: Grid, until: float) -> list[Start]:
     """Return the files that may go on in the next chunk, in the order of their checksums, which is the same in all volumes that have them."""
-    found = list(itertools.islice(wholes.starts(file, 0, last, until), MOST_STARTS))
+    found = list(itertools.islice(wholes.starts(file, 0, last, until), MAX_STARTS))
     ends = [*(place for place, _ in found[1:]), last]
-    return sorted(heads_of(file, found, ends, grid), key=lambda it: it.head)[:MOST_READ]
+    return sorted(heads_of(file, found, ends, grid), key=lambda it: it.head)[:MAX_READ]
 
 
 def heads_of(file: BinaryIO, found: Sequence[tuple[int, wholes.Kind]], ends: Sequence[int], grid: Grid) -> Iterator[Start]:

@@ -6,7 +6,7 @@ from collections.abc import Hashable, Mapping, Sequence
 
 from ..calls.sets import LAST_Q, STAYS, Word, simplest
 from ..evidence.images import Image
-from ..policy.plans import LEAST_BAD, MOST_BAD
+from ..policy.plans import MIN_BAD, MAX_BAD
 from ..units import SECTOR, counted
 from . import rivals
 from .candidates import Candidate, Inside
@@ -18,7 +18,7 @@ TURNS = {"ls": -1, "rs": 1}
 FIXED = ("plain", "parity-first", "parity-last")
 BY_SLOT = "by-slot"
 PLAIN = ("0", "plain", "none")
-# Why a set has no sign beside another one.
+# Why a set has no rating beside another one.
 CONTENT = "another layout of these images, which contradicts it, has long intact files"
 BROKEN = "another layout of these images, which contradicts it, has intact files, and this one has none"
 UNSOUND = "parity is consistent in far fewer rows than with another layout of these images, which has long intact files too"
@@ -43,16 +43,16 @@ class Key:
 
 def in_order(tested: Sequence[Candidate], images: Sequence[Image]) -> list[Candidate]:
     """The candidates as they are printed: those with the most to say for them first, of one volume the simplest; each with the number of the first
-    one that has the same volume, and of one in which its volume begins. Those have no sign beside which another one has more for itself."""
+    one that has the same volume, and of one in which its volume begins. Those have no rating beside which another one has more for itself."""
     same = same_images(images)
     # Once is for all: such a one has a lower score then.
     for it in tested:
         it.unsettled = ""
-    signed = [it for it in tested if it.score >= Score.CHECKED]
-    spoken = [next((told for one in signed if (told := rivalled(it, one, same))), "") for it in signed]
-    for it, told in zip(signed, spoken):
+    rated = [it for it in tested if it.score >= Score.CHECKED]
+    spoken = [next((told for one in rated if (told := rivalled(it, one, same))), "") for it in rated]
+    for it, told in zip(rated, spoken):
         it.rivalled = told
-    whole = [it for it in signed if it.score is Score.WHOLE]
+    whole = [it for it in rated if it.score is Score.WHOLE]
     unsettled = [next((told for one in whole if one is not it and contradict(it, one, same) and (told := rivals.unsettled(it, one))), "")
                  for it in whole]
     for it, told in zip(whole, unsettled):
@@ -102,15 +102,15 @@ def rows_behind(inner: Key, outer: Key) -> int:
 
 
 def rivalled(it: Candidate, other: Candidate, same: Mapping[int, int]) -> str:
-    """How a candidate with a sign is contradicted by another one that has more for itself; nothing where it is not."""
+    """How a candidate with a rating is contradicted by another one that has more for itself; nothing where it is not."""
     rows = rows_before(it, other, same)
     if rows:
         return f"what is found in it begins after its first {rows} stripes, at the start of the volume of another layout"
     if other.whole is it and is_sounder(other, it):
-        without = other.trial.loosened[-1]
+        without = other.step.relaxed[-1]
         return f"{counted(it.unsound or 0, 'inconsistent row')}, and none {without}, which is old, damaged or from another array there"
     if other.whole is it and other.score >= it.score and other.found.files.whole > it.found.files.whole:
-        return f"{counted(it.unsound or 0, 'inconsistent row')}, and fewer files are intact than {other.trial.loosened[-1]}"
+        return f"{counted(it.unsound or 0, 'inconsistent row')}, and fewer files are intact than {other.step.relaxed[-1]}"
     if rivals.are_highest(it, other) and (told := rivals.beaten(it, other)) and (contradict(it, other, same) or lesser(it, other, same)):
         return told
     broken = it.score is Score.CHECKED and it.found.files.found > 0 and not it.found.files.longest_of_all and other.found.files.longest_of_all > 0
@@ -121,7 +121,7 @@ def rivalled(it: Candidate, other: Candidate, same: Mapping[int, int]) -> str:
     if it.score is Score.CHECKED:
         return CONTENT
     bad = (it.unsound or 0) - (other.unsound or 0)
-    return UNSOUND if bad > max(LEAST_BAD, it.hunt.evidence.filled // MOST_BAD) else ""
+    return UNSOUND if bad > max(MIN_BAD, it.scope.evidence.filled // MAX_BAD) else ""
 
 
 def has_as_much(one: Candidate, other: Candidate) -> bool:
@@ -145,7 +145,7 @@ def contradict(one: Candidate, other: Candidate, same: Mapping[int, int]) -> boo
     """Two sets have some images in common, in parts of the disks that overlap, and neither has the volume of the other, nor one that begins inside
     it, nor is but without some disks what the other is: at most one of them is right."""
     keys = key(one.word, same), key(other.word, same)
-    parts = one.hunt.evidence, other.hunt.evidence
+    parts = one.scope.evidence, other.scope.evidence
     apart = parts[0].end <= parts[1].start or parts[1].end <= parts[0].start
     shared = set(keys[0].slots) & set(keys[1].slots) - {None}
     related = keys[0].family == keys[1].family and (keys[0] == keys[1] or rows_behind(*keys) or rows_behind(*keys[::-1]))

@@ -41,7 +41,7 @@ def verdict_of(it: Mapping[str, Any]) -> Verdict:
 
 
 class Looks:
-    """What was found in the volumes of some images, with these maps and tools, where a trial has so many seconds and so many bytes of each image are
+    """What was found in the volumes of some images, with these maps and tools, where a step has so many seconds and so many bytes of each image are
     read: another run finds what this one did only where all that is the same."""
 
     def __init__(self, memory: Memory | None, maps: str | None, tools: Collection[str], seconds: float, first: int) -> None:

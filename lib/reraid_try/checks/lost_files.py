@@ -13,7 +13,7 @@ Run = tuple[int, int]
 # The first inode of an ext that is a file of a user, and that of its root folder.
 FIRST_INODE, ROOT = 11, 2
 # The most blocks of a file system that are asked about.
-MOST_BLOCKS = 5000
+MAX_BLOCKS = 5000
 # Lines of the tools: of a block its inode, of an inode its name; the name of a file that has a sector, or a block.
 ICHECK, NCHECK = re.compile(r"(\d+)\t(\d+)"), re.compile(r"(\d+)\t/?(/.*)")
 NTFS_NAME = re.compile(r"Inode \d+ (/.*?)(?:/\$\w+(?:\(.*\))?)?")
@@ -131,4 +131,4 @@ def told(found: set[str] | None, blocks: int, kind: str) -> tuple[tuple[str, ...
     if found is None:
         return (), f"the tools of {kind} do not report which files touch them"
     said = f"{counted(len(found), 'file')} {'touches' if len(found) == 1 else 'touch'} them; the other lost sectors are free or hold no file"
-    return tuple(sorted(found)), said + (f" (of the first {MOST_BLOCKS} of {blocks} blocks)" if blocks > MOST_BLOCKS else "")
+    return tuple(sorted(found)), said + (f" (of the first {MAX_BLOCKS} of {blocks} blocks)" if blocks > MAX_BLOCKS else "")

@@ -7,8 +7,8 @@ from ..units import KIB, SECTOR
 from .mapped import Extent, Mapped, Read, picked
 
 # So many places of the table are looked at, and so many bytes at each.
-MOST_PLACES, STEP = 128, 64 * KIB
-LEAST_BYTES = 4 * KIB
+MAX_PLACES, STEP = 128, 64 * KIB
+MIN_BYTES = 4 * KIB
 IN_USE, IS_FOLDER, DATA, END = 1, 2, 0x80, 0xFFFFFFFF
 
 
@@ -78,12 +78,12 @@ def files(read: Read, first: int) -> Iterator[Mapped]:
     table = data_of(own, cluster, first) if own else None
     blocks = [(extent.place + at, min(STEP, extent.length - at)) for extent in (table.extents if table else ())
               for at in range(0, extent.length, STEP)]
-    for number in picked(len(blocks), MOST_PLACES):
+    for number in picked(len(blocks), MAX_PLACES):
         data = read(*blocks[number])
         for at in range(0, len(data) - length + 1, length):
             record = whole(data[at:at + length])
             flags = struct.unpack_from("<H", record, 22)[0] if record else 0
             if record and flags & IN_USE and not flags & IS_FOLDER:
                 found = data_of(record, cluster, first)
-                if found and found.size >= LEAST_BYTES:
+                if found and found.size >= MIN_BYTES:
                     yield found

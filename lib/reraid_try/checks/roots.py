@@ -8,7 +8,7 @@ from . import extfiles, xfsfiles
 from .mapped import Read, picked
 
 # So many copies are looked at.
-MOST_COPIES = 16
+MAX_COPIES = 16
 EXT_MAGIC_PLACE, EXT_IDENTIFIER, EXT_ROOT, FOLDER = 56, slice(104, 120), 2, 0x4000
 SPARSE_COPIES = (1, *sorted(base ** power for base in (3, 5, 7) for power in range(1, 12)))
 # The feature by which copies stand elsewhere.
@@ -21,7 +21,7 @@ def xfs(read: Read, first: int, there: int) -> str:
     if it is None:
         return "it has no valid superblock"
     inside = [group for group in range(1, it.groups) if it.group(group) + it.block - first <= there]
-    asked = [inside[number] for number in picked(len(inside), MOST_COPIES)]
+    asked = [inside[number] for number in picked(len(inside), MAX_COPIES)]
     good = sum((head := read(it.group(group), 48))[:4] == b"XFSB" and head[32:48] == it.identifier for group in asked)
     if 2 * good < len(asked):
         return f"{len(asked) - good} of {len(asked)} copies of its superblock are not in their places"
@@ -41,7 +41,7 @@ def ext(read: Read, first: int, there: int) -> str:
     per_group, = struct.unpack_from("<I", head, 32)
     if not struct.unpack_from("<I", head, 92)[0] & TWO_COPIES:
         places = [(tables.start + group * per_group) * tables.block for group in SPARSE_COPIES if group < tables.groups]
-        asked = [place for place in places if place + extfiles.SUPER_BYTES <= there][:MOST_COPIES]
+        asked = [place for place in places if place + extfiles.SUPER_BYTES <= there][:MAX_COPIES]
         copies = [read(first + place, extfiles.SUPER_BYTES) for place in asked]
         good = sum(it[EXT_MAGIC_PLACE:58] == b"\x53\xef" and it[EXT_IDENTIFIER] == head[EXT_IDENTIFIER] for it in copies)
         if 2 * good < len(asked):

@@ -11,7 +11,7 @@ from ..calls.sets import Word, read_word
 from ..calls.surveys import Request
 from ..evidence.images import Image
 from ..halving import halved
-from ..policy.hunt import Hunt
+from ..policy.scope import Scope
 from ..units import counted
 from .candidates import Candidate
 
@@ -19,9 +19,9 @@ from .candidates import Candidate
 SLOW = 3
 # A set with more than one in so many filled rows unsound has no image that is but old or damaged; of an image that ties name as old so much of the
 # filled rows may be.
-MOST_OLD, MOST_STALE = 2, Fraction(9, 10)
+MAX_OLD, MAX_STALE = 2, Fraction(9, 10)
 # So many marks fit before a row, and so many do not behind it, where an array was reshaped up to there.
-LEAST_TURNED = 3
+MIN_TURNED = 3
 
 
 @dataclasses.dataclass
@@ -68,7 +68,7 @@ class Near:
         return self.lacking, self.misfits, self.empty, -self.told.fits
 
     def line(self, bounds: "Bounds") -> str:
-        """What is said of it."""
+        """Return it as one line of text."""
         groups = ", ".join(group.text() for group in self.groups) or "no landmarks"
         return f"  {self.word}: {self.told.unsound} of {self.told.rows} rows inconsistent{bounds.text()}; {groups}"
 
@@ -109,7 +109,7 @@ class Old:
     blamed: bool = True
 
     def text(self, names: Sequence[str]) -> str:
-        """What is said of it."""
+        """Return it as one line of text."""
         since = f" from row {self.bounds.first} on" if self.bounds.first is not None else ""
         rebuilt = "; perhaps it was being rebuilt, up to there" if self.bounds.first and self.to_end else ""
         other = "" if self.blamed else ", or another image,"
@@ -127,18 +127,18 @@ class Turned:
     misfits: int
 
     def text(self) -> str:
-        """What is said of it."""
+        """Return it as one line of text."""
         return (f"{counted(self.fits, 'landmark')} {'matches' if self.fits == 1 else 'match'} before row {self.row}, and {self.misfits} from there "
                 "on do not. A reshape may have stopped there, or landmarks of an older array or file system follow")
 
 
 class Rows:
-    """The rows of the sets of a hunt, or of those with one image more, which stands behind its own."""
+    """The rows of the sets of a scope, or of those with one image more, which stands behind its own."""
 
-    def __init__(self, hunt: Hunt, more: Image | None = None) -> None:
-        self.hunt, self.more, self.program = hunt, more, hunt.program
+    def __init__(self, scope: Scope, more: Image | None = None) -> None:
+        self.scope, self.more, self.program = scope, more, scope.program
         if more:
-            asked = hunt.program
+            asked = scope.program
             self.program = Program(asked.commands, [*asked.names, more.name], asked.seconds, asked.jobs)
 
     def ask(self, near: Near) -> bool:
@@ -162,8 +162,8 @@ class Rows:
         return Bounds(self.row_of(near, 1), self.row_of(near, near.told.unsound))
 
     def whole(self, candidate: Candidate) -> str:
-        """In which rows of the whole window parity holds for a candidate, whatever was loosened; nothing for RAID 10, which has none."""
-        word, request = candidate.listed, candidate.trial.request
+        """In which rows of the whole window parity holds for a candidate, whatever was relaxed; nothing for RAID 10, which has none."""
+        word, request = candidate.listed, candidate.step.request
         if word is None or request is None or candidate.word.is_mirrored:
             return ""
         if word.spare < 1:
@@ -175,27 +175,27 @@ class Rows:
 
     def window(self, request: Request) -> Plan:
         """The plan of a request over the whole window, by parity alone."""
-        plan = self.hunt.surveys.plan(request).bare().having(window=self.hunt.evidence.window, badrows=0)
+        plan = self.scope.surveys.plan(request).bare().having(window=self.scope.evidence.window, badrows=0)
         more = (self.more.sectors,) if self.more else ()
-        return dataclasses.replace(plan, lengths=(*plan.lengths, *more), end=min(self.hunt.evidence.end, *more, plan.end))
+        return dataclasses.replace(plan, lengths=(*plan.lengths, *more), end=min(self.scope.evidence.end, *more, plan.end))
 
     def old(self, candidate: Candidate, stale: Iterable[Image] = ()) -> list[Old]:
         """The images in no slot of a candidate that belong into one that is empty, and are old or damaged; `stale` are images that ties name as old,
-        which the hunt has not."""
-        word, request = candidate.listed, candidate.trial.request
+        which the scope has not."""
+        word, request = candidate.listed, candidate.step.request
         if word is None or request is None or candidate.word.is_mirrored or not word.lost or len(word.offsets) > 1:
             return []
-        images, found = self.hunt.evidence.images, list[Old]()
+        images, found = self.scope.evidence.images, list[Old]()
         for place in sorted(set(range(len(images))) - set(word.images)):
-            found += self.at_slots(word, place, images[place], request, Fraction(1, MOST_OLD))
+            found += self.at_slots(word, place, images[place], request, Fraction(1, MAX_OLD))
         for image in stale:
-            slots = Rows(self.hunt, image).at_slots(word, len(images), image, request, MOST_STALE)
+            slots = Rows(self.scope, image).at_slots(word, len(images), image, request, MAX_STALE)
             # Ties of the others name it, so it is the one.
             found += [dataclasses.replace(it, blamed=True) for it in sorted(slots, key=lambda it: it.told.unsound)[:1]]
         return found
 
     def at_slots(self, word: Word, place: int, image: Image, request: Request, most: Fraction) -> list[Old]:
-        """This image, by its place in the hunt, in each empty slot of a set in which parity holds with it in all but so much of the filled rows."""
+        """This image, by its place in the scope, in each empty slot of a set in which parity holds with it in all but so much of the filled rows."""
         found = []
         for slot in (slot for slot, it in enumerate(word.slots) if it is None):
             found += self.old_at(word.having((*word.slots[:slot], place, *word.slots[slot + 1:])), image, slot, request, most)
@@ -204,9 +204,9 @@ class Rows:
     def old_at(self, word: Word, image: Image, slot: int, request: Request, most: Fraction) -> list[Old]:
         """This image, where parity holds with it in all but so much of the filled rows of a set, and not in all."""
         near = Near(word.text, self.window(request))
-        if word.spare < 1 or not self.ask(near) or not 0 < near.told.unsound < most * self.hunt.evidence.filled:
+        if word.spare < 1 or not self.ask(near) or not 0 < near.told.unsound < most * self.scope.evidence.filled:
             return []
-        bounds, images = self.bounds(near), self.hunt.evidence.images
+        bounds, images = self.bounds(near), self.scope.evidence.images
         lasts = [it.last for place, it in enumerate(images) if place in word.images and it.number != image.number and it.last is not None]
         to_end = bounds.last is not None and bool(lasts) and max(lasts) - word.offset <= bounds.last + word.chunk
         return [Old(image.number, slot, near.told, bounds, to_end, word.spare > 1)]
@@ -215,7 +215,7 @@ class Rows:
         """The row before which the marks of a group fit and behind which none does; None for most sets."""
         word = read_word(near.word)
         for place, held in enumerate(near.groups):
-            if held.origin is None or min(held.fits, held.misfits) < LEAST_TURNED:
+            if held.origin is None or min(held.fits, held.misfits) < MIN_TURNED:
                 continue
             group = near.plan.groups[place]
             alone = dataclasses.replace(near.plan, groups=(group,)).having(origins=held.origin, misfits=held.misfits, window=1, badrows=1)
@@ -227,7 +227,7 @@ class Rows:
     def turn_of(self, word: Word, plan: Plan, held: Held) -> Turned | None:
         """The row before which the marks of a plan's one group fit and behind which none does, where there is one. By rows of chunks."""
         def before(rows: int) -> Held | None:
-            told = self.hunt.program.check(word.text, dataclasses.replace(plan, end=word.offset + rows * word.chunk))
+            told = self.scope.program.check(word.text, dataclasses.replace(plan, end=word.offset + rows * word.chunk))
             return told.groups[0] if told and told.groups else None
 
         def has_misfit(rows: int) -> bool | None:

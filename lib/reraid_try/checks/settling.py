@@ -14,7 +14,7 @@ from .verdicts import Score
 from .volumes import Source
 
 # Blocks of two volumes that are compared, spread over both, and the bytes of each; and the most different volumes that one is compared with.
-BLOCKS, BLOCK, MOST_DIFFERENT = 4096, 4 * KIB, 8
+BLOCKS, BLOCK, MAX_DIFFERENT = 4096, 4 * KIB, 8
 Contradict = Callable[[Candidate, Candidate], bool]
 
 
@@ -63,7 +63,7 @@ def settle(tests: Tests, tested: Sequence[Candidate], contradict: Contradict) ->
     different: list[Candidate] = []
     for it in (it for it in tested if it.score is Score.WHOLE):
         near = [one for one in different if rivals.are_highest(it, one) and contradict(it, one) and rivals.is_open(it, one)]
-        if it.volume is None and len(different) < MOST_DIFFERENT:
+        if it.volume is None and len(different) < MAX_DIFFERENT:
             alike = next((one for one in near if same_bytes(tests, it, one)), None)
             it.volume = alike.volume if alike else 1 + max((one.volume or 0 for one in tested), default=0)
         if it.volume not in {one.volume for one in different}:

@@ -17,9 +17,9 @@ Tables = Callable[[Read, int], Iterator[Mapped]]
 # The tables of each kind of file system, as `blkid` calls it.
 TABLES: dict[str, Tables] = {"ext2": extfiles.files, "ext3": extfiles.files, "ext4": extfiles.files, "xfs": xfsfiles.files, "ntfs": ntfsfiles.files}
 # Of so many files of the tables the first sector is read; so many bytes of files are, of no file more than a part of these.
-MOST_PROBED, MOST_READ, PART_OF_READ = 1024, 1024 * MIB, 8
+MAX_PROBED, MAX_READ, PART_OF_READ = 1024, 1024 * MIB, 8
 # Where tables tell of no files, they are looked for in so many windows of so many bytes all over the volume, so many in each.
-WINDOWS, WINDOW, MOST_OF_WINDOW = 64, 8 * MIB, 2
+WINDOWS, WINDOW, MAX_OF_WINDOW = 64, 8 * MIB, 2
 
 
 class Counted(unread.Unread):
@@ -38,7 +38,7 @@ class Counted(unread.Unread):
     @property
     def is_full(self) -> bool:
         """Return whether as much was read as may be."""
-        return self.count >= MOST_READ
+        return self.count >= MAX_READ
 
 
 def reader(file: BinaryIO, length: int) -> Read:
@@ -58,12 +58,12 @@ def kind_of(head: bytes) -> Kind | None:
 
 def probed(read: Read, found: Sequence[Mapped], until: float) -> list[tuple[Mapped, Kind]]:
     """Return those of these files that say themselves whether they are whole, in the order of the volume."""
-    chosen = [found[number] for number in mapped.picked(len(found), MOST_PROBED)]
+    chosen = [found[number] for number in mapped.picked(len(found), MAX_PROBED)]
     told = []
     for it in sorted(chosen, key=lambda one: one.place):
         if time.monotonic() > until:
             break
-        if it.size <= MOST_READ // PART_OF_READ and (kind := kind_of(read(it.place, SECTOR))):
+        if it.size <= MAX_READ // PART_OF_READ and (kind := kind_of(read(it.place, SECTOR))):
             told.append((it, kind))
     return told
 
@@ -92,8 +92,8 @@ def by_tables(path: str, length: int, system: tuple[str, int], rows: tuple[int, 
         listed = TABLES[kind](read, first) if kind in TABLES else iter(())
         found = list(itertools.takewhile(lambda _: time.monotonic() < until and not raw.is_full, listed))
         told.more = bool(found)
-        for it, sort in order(probed(read, found, until), wholes.MOST_FILES):
-            if time.monotonic() < until and raw.count + it.size <= MOST_READ:
+        for it, sort in order(probed(read, found, until), wholes.MAX_FILES):
+            if time.monotonic() < until and raw.count + it.size <= MAX_READ:
                 size = sort.length(mapped.opened(read, it), 0)
                 told.take(size)
                 seen |= borders(it, row, chunk) if size and chunk else set()
@@ -109,7 +109,7 @@ def in_windows(path: str, length: int, seconds: float) -> Wholes:
         for number in range(WINDOWS):
             first = length // WINDOWS * number // SECTOR * SECTOR
             here = min(length, first + WINDOW)
-            for place, kind in itertools.islice(wholes.starts(file, first, here, until), MOST_OF_WINDOW):
+            for place, kind in itertools.islice(wholes.starts(file, first, here, until), MAX_OF_WINDOW):
                 if not raw.is_full:
                     told.take(kind.length(file, place))
     return told

@@ -21,7 +21,7 @@ FAT_MINOR = re.compile(r"""fsck\.fat\ .*|There\ are\ differences\ between\ boot\
     |Free\ cluster\ summary\ .*|\s*Auto-(?:correcting|setting).*|Reclaimed\ \d+\ unused\ cluster.*|Leaving\ filesystem\ unchanged.*
     |.*:\ \d+\ files,\ \d+/\d+\ clusters|\s*""", re.VERBOSE)
 # A checker whose faults are longer than so many bytes is ended: fsck.fat does not come to its end in a wrong volume.
-MOST_FAULTS = 64 * KIB
+MAX_FAULTS = 64 * KIB
 
 
 def ext_length(head: bytes) -> int:
@@ -127,7 +127,7 @@ class System:
 
     def pipeline(self, path: str, first: int = 0) -> list[list[str]]:
         """Its checker, over a file, which is ended once its faults are too long."""
-        return [self.command(path, first), *([["head", "-c", str(MOST_FAULTS)]] if self.minor else [])]
+        return [self.command(path, first), *([["head", "-c", str(MAX_FAULTS)]] if self.minor else [])]
 
     def is_minor(self, text: str) -> bool:
         """What its checker prints says only that it was not unmounted, or that all of it was read."""

@@ -25,17 +25,17 @@ from .verdicts import Score, Verdict
 from .volumes import Room, Source
 
 # Of so many sets all are looked at in their order; of more the first, of which so many classes at most.
-FEW, MOST_BEGUN, MOST_CLASSED = 8, 2048, 1024
+FEW, MAX_BEGUN, MAX_CLASSED = 8, 2048, 1024
 # More sets at once are put off where parity tells nothing, and so many are looked at that begin with nothing known.
-MOST_UNTOLD, MOST_UNKNOWN = 1024, 256
-# In so many volumes that have no sign, whatever files are in them, these are looked for at the end.
-MOST_COUNTED = 256
+MAX_UNTOLD, MAX_UNKNOWN = 1024, 256
+# In so many volumes that have no rating, whatever files are in them, these are looked for at the end.
+MAX_COUNTED = 256
 # How far into a volume a file system may begin to be looked for before the whole is read, in sectors.
 FARTHEST = 131072
-# The writing of a volume may take so many times as long as a trial.
+# The writing of a volume may take so many times as long as a step.
 WRITTEN_TIMES = 20
 # So many images are left out of a set at most.
-MOST_OUT = 2
+MAX_OUT = 2
 One = TypeVar("One")
 Other = TypeVar("Other")
 
@@ -46,9 +46,9 @@ def in_classes(program: Program, found: list[Candidate], end: int) -> list[Candi
     if len(plain) < 2:
         return found
     classes: dict[int, list[Candidate]] = {}
-    for number, it in zip(program.classes([it.word for it in plain[:MOST_CLASSED]], end), plain):
+    for number, it in zip(program.classes([it.word for it in plain[:MAX_CLASSED]], end), plain):
         classes.setdefault(number, []).append(it)
-    return [simplest_of(alike) for alike in classes.values()] + plain[MOST_CLASSED:] + [it for it in found if it.word.is_mirrored]
+    return [simplest_of(alike) for alike in classes.values()] + plain[MAX_CLASSED:] + [it for it in found if it.word.is_mirrored]
 
 
 def simplest_of(alike: Sequence[Candidate]) -> Candidate:
@@ -91,19 +91,19 @@ class Tests:
         already is not asked again."""
         if candidate.unsound is not None or not rows and candidate.groups:
             return
-        plan = candidate.hunt.checked_by(candidate.trial)
+        plan = candidate.scope.checked_by(candidate.step)
         if plan is None or candidate.listed is None:
             return
-        told = candidate.hunt.program.check(candidate.listed.text, plan if rows else plan.having(window=1))
+        told = candidate.scope.program.check(candidate.listed.text, plan if rows else plan.having(window=1))
         if told:
             candidate.groups = told.groups
             candidate.unsound = told.unsound if rows else None
-            candidate.left_most = left_most(candidate.trial, plan, told.groups)
+            candidate.left_most = left_most(candidate.step, plan, told.groups)
 
     def unsound_rows(self, candidate: Candidate, word: Word) -> int:
         """How many rows are unsound of a set like a candidate's."""
-        plan = candidate.hunt.checked_by(candidate.trial)
-        told = candidate.hunt.program.check(word.text, plan) if plan else None
+        plan = candidate.scope.checked_by(candidate.step)
+        told = candidate.scope.program.check(word.text, plan) if plan else None
         return told.unsound if told else candidate.unsound or 0
 
     def without_damaged(self, tested: Sequence[Candidate]) -> list[Candidate]:
@@ -118,8 +118,8 @@ class Tests:
         return found
 
     def left_out(self, candidate: Candidate) -> list[frozenset[int]]:
-        """What may be left out of a candidate, by places among the images of its hunt: the two images that make most rows unsound, or each one, where
-        parity does not tell which that is."""
+        """What may be left out of a candidate, by places among the images of its scope: the two images that make most rows unsound, or each one,
+        where parity does not tell which that is."""
         listed = candidate.listed or candidate.word
         if listed.spare < damage.TELLING:
             return [frozenset({image}) for image in listed.images]
@@ -128,11 +128,11 @@ class Tests:
                                                            "counts inconsistent rows without each image")))
         blamed = damage.blamed(candidate, counts)
         if blamed:
-            numbers = [candidate.hunt.evidence.images[image].number for image in blamed]
+            numbers = [candidate.scope.evidence.images[image].number for image in blamed]
             told = ", ".join(f"{(candidate.unsound or 0) - counts[image]} because of image {number}" for image, number in zip(blamed, numbers))
             self.report.say("blamed", f"  {candidate.word.text}: {candidate.unsound} rows inconsistent, {told}", set=candidate.word.text,
                             unsound=candidate.unsound, images=numbers)
-        return [frozenset(blamed[:MOST_OUT])] if blamed else []
+        return [frozenset(blamed[:MAX_OUT])] if blamed else []
 
     def read(self, candidate: Candidate, files: bool = True) -> Candidate:
         """Looks at the volume of a candidate, for files that are whole too where these are asked for."""
@@ -210,26 +210,26 @@ class Tests:
     def test(self, found: list[Candidate]) -> list[Candidate]:
         """Tests one of each class: of many, those first that begin with something known, and the others where none of these is clean or encrypted.
         Doubtful sets, and too many, are put off."""
-        if len(found) > MOST_UNTOLD and not found[0].trial.shape.parity and not self.late:
+        if len(found) > MAX_UNTOLD and not found[0].step.shape.parity and not self.late:
             self.report.say("put off", f"  {len(found)} layouts deferred: too many, since no parity is left to test", sets=len(found))
             self.put_off += found
             return []
-        if len(found) > MOST_BEGUN:
-            self.report.say("many", f"  only the first {MOST_BEGUN} of {len(found)} layouts are checked", sets=len(found))
-            found = found[:MOST_BEGUN]
+        if len(found) > MAX_BEGUN:
+            self.report.say("many", f"  only the first {MAX_BEGUN} of {len(found)} layouts are checked", sets=len(found))
+            found = found[:MAX_BEGUN]
         tested: list[Candidate] = []
         for part in self.parts(self.without_doubtful(found)):
             classes = in_classes(self.program, part, max(named(it.word, self.images).end for it in part))
-            if len(classes) > MOST_CLASSED:
-                self.report.say("many", f"  only the first {MOST_CLASSED} of {len(classes)} volumes are checked", classes=len(classes))
-            tested += self.looked_at(classes[:MOST_CLASSED])
+            if len(classes) > MAX_CLASSED:
+                self.report.say("many", f"  only the first {MAX_CLASSED} of {len(classes)} volumes are checked", classes=len(classes))
+            tested += self.looked_at(classes[:MAX_CLASSED])
             if any(it.score >= Score.CHECKED or it.found.closed for it in tested):
                 break
         return tested
 
     def looked_at(self, classes: list[Candidate]) -> list[Candidate]:
-        """Looks at the volumes of these. Of many the checkers are asked first, and files are looked for where they may give a sign; elsewhere at the
-        end, since they are the longer work."""
+        """Looks at the volumes of these. Of many the checkers are asked first, and files are looked for where they may give a rating; elsewhere at
+        the end, since they are the longer work."""
         if len(classes) <= FEW:
             return self.side_by_side(self.read, classes, "checks the candidates", self.tell)
         self.side_by_side(lambda it: self.read(it, False), classes, "runs the checkers over the candidates")
@@ -237,19 +237,19 @@ class Tests:
         return classes
 
     def count_late(self, tested: Sequence[Candidate]) -> None:
-        """Looks for files in the volumes where that was put off, as they give no sign: in the first of these, as they are printed."""
+        """Looks for files in the volumes where that was put off, as they give no rating: in the first of these, as they are printed."""
         left = sorted((it for it in tested if it.found.settled and not it.found.counted and it.found.length <= self.options.first),
                       key=lambda it: it.place)
-        self.side_by_side(self.read, left[:MOST_COUNTED], "looks for files in the candidates")
+        self.side_by_side(self.read, left[:MAX_COUNTED], "looks for files in the candidates")
 
     def without_doubtful(self, found: list[Candidate]) -> list[Candidate]:
         """The sets of which more speaks for them than against them; the others are kept for the end."""
-        if not found or not found[0].trial.lenient or self.late:
+        if not found or not found[0].step.lenient or self.late:
             return found
         # At level 5 parity is the same in whatever order the images stand.
         firsts: dict[Hashable, Candidate] = {}
         alike = [firsts.setdefault((it.word.offsets, frozenset(it.word.slots)) if it.word.level == "5" else it.word, it) for it in found]
-        self.side_by_side(lambda it: self.ask(it, it.trial.has_bad_rows), firsts.values(), "counts the inconsistent rows of the candidates")
+        self.side_by_side(lambda it: self.ask(it, it.step.has_bad_rows), firsts.values(), "counts the inconsistent rows of the candidates")
         self.side_by_side(lambda it: self.ask(it, False), found, "counts the matching landmarks of the candidates")
         for it, first in zip(found, alike):
             it.doubted = it.doubted or first.mostly_unsound
@@ -261,7 +261,7 @@ class Tests:
         return [it for it in found if not it.doubtful]
 
     def test_late(self) -> list[Candidate]:
-        """Tests the sets that were put off, those with the least loosened first."""
+        """Tests the sets that were put off, those with the least relaxed first."""
         found, self.put_off, self.late = sorted(self.put_off, key=lambda it: it.order), [], True
         return self.test(found) if found else []
 
@@ -271,9 +271,9 @@ class Tests:
             return [found] if found else []
         begin = self.side_by_side(self.begins, found, "reads how the candidates begin")
         known, others = [[it for it, kind in zip(found, begin) if kind == wanted] for wanted in (True, False)]
-        later = bool(others and others[0].hunt.plan.groups) and not self.late
+        later = bool(others and others[0].scope.plan.groups) and not self.late
         if others and (known or later):
             self.report.say("begins", f"  {len(known)} of {len(found)} volumes begin with known contents; " +
                             ("the others are deferred" if later else "these are checked first"), known=len(known), sets=len(found))
         self.put_off += others if later else []
-        return [it for it in (known, [] if later else others[:MOST_UNKNOWN]) if it]
+        return [it for it in (known, [] if later else others[:MAX_UNKNOWN]) if it]

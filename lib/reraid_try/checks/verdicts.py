@@ -26,7 +26,7 @@ class Score(enum.IntEnum):
     WHOLE = 3
 
     @property
-    def sign(self) -> str:
+    def rating(self) -> str:
         """What stands for it in the table."""
         return "+" * max(0, self - 1)
 
@@ -83,7 +83,7 @@ class Finding:
         return f"{self.kind} states {counted(self.told // SECTOR, 'sector')}, but only {self.there // SECTOR} are there"
 
     def text(self) -> str:
-        """What is said of it."""
+        """Return it as one line of text."""
         where = f"{self.region} " if self.region else ""
         return f"{where}{self.kind}" + (f": {self.said}" if self.said else "")
 
@@ -206,7 +206,7 @@ class Verdict:
 
     @property
     def settled(self) -> bool:
-        """Whatever files are in it, it has no sign: a checker found fault, or nothing lies in what was found."""
+        """Whatever files are in it, it has no rating: a checker found fault, or nothing lies in what was found."""
         return self.refuted or self.empty
 
     @property
@@ -243,7 +243,7 @@ class Verdict:
 
     @property
     def doubts(self) -> list[str]:
-        """Why what was found says too little for a sign."""
+        """Why what was found says too little for a rating."""
         said: list[str] = []
         if self.settled:
             return said

@@ -17,17 +17,17 @@ from typing import BinaryIO, Optional
 from ..evidence import reading, unread
 from ..units import KIB, MIB, SECTOR, size_said
 
-MOST_FILES = 64
+MAX_FILES = 64
 # Of a longer file so much is read, so much at once, and so much of it is unpacked at once.
-MOST_BYTES, BLOCK, UNPACKED = 256 * MIB, 256 * KIB, 4 * MIB
+MAX_BYTES, BLOCK, UNPACKED = 256 * MIB, 256 * KIB, 4 * MIB
 # So many are read of those that may be the longest, of so many.
-MOST_LONG, MOST_STARTS = 16, 1 << 16
+MAX_LONG, MAX_STARTS = 16, 1 << 16
 # So many are read of those that may lie on more than one chunk.
-MOST_ACROSS = 512
+MAX_ACROSS = 512
 # A file is looked for so long, in seconds, where no time is given.
 NO_END = 1e9
 # A chunk of a picture has so many bytes at most.
-MOST_CHUNK = 64 * MIB
+MAX_CHUNK = 64 * MIB
 
 
 @dataclasses.dataclass
@@ -88,7 +88,7 @@ def pieces(file: BinaryIO, place: int) -> Iterator[bytes]:
     """The bytes from a place on."""
     file.seek(place)
     read = 0
-    while read < MOST_BYTES and (block := file.read(BLOCK)):
+    while read < MAX_BYTES and (block := file.read(BLOCK)):
         read += len(block)
         yield block
 
@@ -106,7 +106,7 @@ def unpacked(file: BinaryIO, place: int) -> int:
                 return read - len(engine.unused_data)
     except zlib.error:
         return 0
-    return read if read >= MOST_BYTES else 0
+    return read if read >= MAX_BYTES else 0
 
 
 def streamed(file: BinaryIO, place: int, engine: bz2.BZ2Decompressor | lzma.LZMADecompressor) -> int:
@@ -122,19 +122,19 @@ def streamed(file: BinaryIO, place: int, engine: bz2.BZ2Decompressor | lzma.LZMA
                 return read - len(engine.unused_data)
     except (OSError, lzma.LZMAError, EOFError, ValueError):
         return 0
-    return read if read >= MOST_BYTES else 0
+    return read if read >= MAX_BYTES else 0
 
 
 def png(file: BinaryIO, place: int) -> int:
     """The length of a picture whose chunks all have the right sums; 0 where one has not."""
     here = place + 8
-    while here - place < MOST_BYTES:
+    while here - place < MAX_BYTES:
         file.seek(here)
         head = file.read(8)
         if len(head) < 8:
             return 0
         size, kind = struct.unpack(">I4s", head)
-        if size > MOST_CHUNK or not kind.isalpha():
+        if size > MAX_CHUNK or not kind.isalpha():
             return 0
         body = file.read(size + 4)
         if len(body) < size + 4 or zlib.crc32(kind + body[:size]) != struct.unpack(">I", body[size:])[0]:
@@ -155,7 +155,7 @@ def inflated(file: BinaryIO, place: int) -> tuple[int, int | None]:
             block = engine.unconsumed_tail
         if engine.eof:
             return read - len(engine.unused_data), check
-    if read < MOST_BYTES:
+    if read < MAX_BYTES:
         raise zlib.error
     return read, None
 
@@ -167,7 +167,7 @@ def stored(file: BinaryIO, place: int, size: int) -> tuple[int, int | None]:
         check, left = zlib.crc32(block[:left], check), left - min(left, len(block))
         if not left:
             break
-    if left and size - left < MOST_BYTES:
+    if left and size - left < MAX_BYTES:
         raise zlib.error
     return size, None if left else check
 
@@ -184,7 +184,7 @@ def described(file: BinaryIO, place: int) -> tuple[int, int]:
 def archive(file: BinaryIO, place: int) -> int | None:
     """The length of a zip up to its list, where the sums of all members are right; 0 where one is not, None where it does not say where one ends."""
     here = place
-    while here - place < MOST_BYTES:
+    while here - place < MAX_BYTES:
         file.seek(here)
         head = file.read(30)
         if head[:4] in (b"PK\1\2", b"PK\5\6"):
@@ -228,7 +228,7 @@ KINDS = (
 )
 
 
-def count(path: str, first: int = 0, last: int | None = None, seconds: float = NO_END, most: int = MOST_FILES) -> Wholes:
+def count(path: str, first: int = 0, last: int | None = None, seconds: float = NO_END, most: int = MAX_FILES) -> Wholes:
     """The files that begin in a volume, or in a part of it, in bytes; the first of them where there are many, or where time is up."""
     told, until = Wholes(), time.monotonic() + seconds
     with unread.opened(path) as file:
@@ -252,10 +252,10 @@ def count_long(path: str, last: int, row: int, chunk: int, seconds: float) -> Wh
     go on."""
     told, now = Wholes(), time.monotonic()
     with unread.opened(path) as file:
-        found = list(itertools.islice(starts(file, 0, last, now + seconds / 2), MOST_STARTS))
+        found = list(itertools.islice(starts(file, 0, last, now + seconds / 2), MAX_STARTS))
         ends = [*(place for place, _ in found[1:]), last]
         room = [(end - place, place, kind) for (place, kind), end in zip(found, ends)]
-        for _, place, kind in sorted(room, key=lambda it: it[:2], reverse=True)[:MOST_LONG]:
+        for _, place, kind in sorted(room, key=lambda it: it[:2], reverse=True)[:MAX_LONG]:
             if told.longest > row or time.monotonic() > now + seconds:
                 break
             told.take(kind.length(file, place))
@@ -269,7 +269,7 @@ def joined(file: BinaryIO, room: Iterable[tuple[int, int, "Kind"]], row: int, ch
     bytes lie up to the next one, and where it begins."""
     seen: set[int] = set()
     across = (it for it in room if it[1] // chunk < (it[1] + it[0] - 1) // chunk)
-    for _, place, kind in itertools.islice(across, MOST_ACROSS):
+    for _, place, kind in itertools.islice(across, MAX_ACROSS):
         if time.monotonic() > until or len(seen) == row // chunk:
             break
         size = kind.length(file, place) or 0

@@ -9,9 +9,9 @@ from .mapped import Extent, Mapped, Read, picked
 
 SUPER_BYTES = 512
 # So many allocation groups are looked at, so many leaves of the tree of each, and so many chunks of 64 inodes of these.
-MOST_GROUPS, MOST_LEAVES, MOST_CHUNKS = 64, 8, 24
+MAX_GROUPS, MAX_LEAVES, MAX_CHUNKS = 64, 8, 24
 CHUNK = 64
-LEAST_BYTES = 4 * KIB
+MIN_BYTES = 4 * KIB
 IN_EXTENTS, REGULAR, KINDS = 2, 0x8000, 0xF000
 # Of an inode of version 3: that the number of its extents has 64 bits.
 WIDE_COUNT = 1 << 4
@@ -72,9 +72,9 @@ class Tables:
 
     def files(self) -> Iterator[Mapped]:
         """Yield files of allocation groups all over the file system."""
-        for group in picked(self.it.groups, MOST_GROUPS):
+        for group in picked(self.it.groups, MAX_GROUPS):
             chunks = self.chunks(group)
-            for number in picked(len(chunks), MOST_CHUNKS):
+            for number in picked(len(chunks), MAX_CHUNKS):
                 data = self.read(self.it.inode_place(group, chunks[number]), CHUNK * self.it.inode)
                 for at in range(0, len(data) - self.it.inode + 1, self.it.inode):
                     if found := self.file(data[at:at + self.it.inode]):
@@ -89,7 +89,7 @@ class Tables:
         blocks = [root]
         for height in range(min(level, 6) - 1, 0, -1):
             below = [one for block in blocks for one in self.below(group, block, height)]
-            blocks = [below[number] for number in picked(len(below), MOST_LEAVES)]
+            blocks = [below[number] for number in picked(len(below), MAX_LEAVES)]
         return [one for block in blocks for one in self.records(group, block)]
 
     def node(self, group: int, block: int, height: int) -> tuple[bytes, int]:
@@ -116,7 +116,7 @@ class Tables:
         """Return the file of an inode; None where it is none, or its extents do not stand in it."""
         mode, version, form = struct.unpack_from(">HBB", inode, 2)
         size, = struct.unpack_from(">Q", inode, 56)
-        if inode[:2] != b"IN" or mode & KINDS != REGULAR or form != IN_EXTENTS or size < LEAST_BYTES:
+        if inode[:2] != b"IN" or mode & KINDS != REGULAR or form != IN_EXTENTS or size < MIN_BYTES:
             return None
         count, = struct.unpack_from(">I", inode, 76)
         core = 176 if version == 3 else 100

@@ -13,7 +13,7 @@ from ..units import MIB, SECTOR
 from . import reading
 
 # So many bytes of all images may be kept in memory.
-MOST_BYTES = 384 * MIB
+MAX_BYTES = 384 * MIB
 # Behind each part so many sectors of zeros stand, so that what begins at its end does not go on in the next one.
 GAP = 256
 

@@ -8,7 +8,7 @@ from ..units import SECTOR
 
 # Sectors of each image that are looked at, and how many of all must not be zeros so that they tell something. One in so many has a copy at least, if
 # copies are lost too.
-SAMPLES, LEAST, PART = 256, 16, 3
+SAMPLES, MIN, PART = 256, 16, 3
 
 
 def read_at(file: BinaryIO, sector: int) -> bytes:
@@ -44,4 +44,4 @@ def lie_apart(names: Sequence[str], distance: int, first: int, last: int) -> boo
     finally:
         for file in files.values():
             file.close()
-    return told >= LEAST and PART * copied > told
+    return told >= MIN and PART * copied > told

@@ -13,7 +13,7 @@ SECTOR = 512
 Read = Callable[[int, int], bytes]
 
 LUKS = b"LUKS\xba\xbe"
-LUKS2_JSON, LUKS2_LEAST, LUKS2_MOST = 4096, 16384, 4 << 20
+LUKS2_JSON, LUKS2_MIN, LUKS2_MAX = 4096, 16384, 4 << 20
 BITLOCKER, BITLOCKER_TO_GO = b"-FVE-FS-", b"MSWIN4.1"
 # The identifier of BitLocker's metadata, as it stands in a boot sector: 4967D63B-2E29-4AD8-8399-F6A339E3D001.
 BITLOCKER_ID = uuid.UUID("4967d63b-2e29-4ad8-8399-f6a339e3d001").bytes_le
@@ -37,7 +37,7 @@ class Encryption:
     data: int | None = None
 
     def line(self) -> str:
-        """What is said of it."""
+        """Return it as one line of text."""
         told = [part for part in (self.detail, f"identifier {self.identifier}" if self.identifier else "") if part]
         return f"encrypted: {self.kind}" + (f" ({', '.join(told)})" if told else "")
 
@@ -66,7 +66,7 @@ def luks2_segment(area: bytes) -> tuple[str, int | None]:
 def luks2(head: bytes, read: Read) -> Encryption:
     """What a head of LUKS2 tells."""
     size = int.from_bytes(head[8:16], "big")
-    area = read(LUKS2_JSON, size - LUKS2_JSON) if LUKS2_LEAST <= size <= LUKS2_MOST else b""
+    area = read(LUKS2_JSON, size - LUKS2_JSON) if LUKS2_MIN <= size <= LUKS2_MAX else b""
     cipher, data = luks2_segment(area)
     return Encryption("LUKS2", ("cryptsetup", "open", "--readonly", "VOLUME", "NAME"), text_of(head[168:208]), cipher, data)
 

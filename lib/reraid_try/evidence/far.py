@@ -12,16 +12,16 @@ from ..units import SECTOR
 from . import compact, extents
 
 # Chunks have so many sectors at most, and so many sectors of tables are read of each image behind where they begin.
-MOST_CHUNK, TABLE = 2048, 2048
+MAX_CHUNK, TABLE = 2048, 2048
 # So many sectors around each landmark that was seen are read again, of so many landmarks at most.
-AROUND, MOST_AGAIN = 16, 2048
+AROUND, MAX_AGAIN = 16, 2048
 # So many tables are looked at, at most.
-MOST_TABLES = 64
+MAX_TABLES = 64
 # Sectors from the start of an ext to its first superblock.
 EXT_SUPER = 2
 # The bits of the flags of a group of an ext, and how far apart its two bitmaps are. The program locates inodes of groups whose descriptors lie in so
 # many bytes behind a superblock.
-GROUP_FLAGS, MOST_APART, LOCATED = 7, 4096, 128 * SECTOR
+GROUP_FLAGS, MAX_APART, LOCATED = 7, 4096, 128 * SECTOR
 
 
 @dataclasses.dataclass(frozen=True)
@@ -49,7 +49,7 @@ def starts(plan: Plan, heads: Sequence[Start]) -> Iterator[Start]:
     """Yield where the file systems begin whose first superblock a survey saw, or that are known by their heads; of some close to each other one."""
     seen: list[Start] = []
     for it in heads:
-        if it.kind in TELLERS and not any(abs(it.sector - other.sector) <= MOST_CHUNK for other in seen):
+        if it.kind in TELLERS and not any(abs(it.sector - other.sector) <= MAX_CHUNK for other in seen):
             seen.append(it)
             yield it
     for group in plan.groups:
@@ -97,7 +97,7 @@ def used_tables(it: extfiles.Tables, data: bytes) -> Iterator[int]:
         if it.wide and it.descriptor >= 64:
             bitmap, inodes, table = (low + (high << 32) for low, high in zip((bitmap, inodes, table), struct.unpack_from("<III", data, at + 32)))
         used = it.inodes - free
-        if flags <= GROUP_FLAGS and 0 < used <= it.inodes and folders <= used and abs(bitmap - inodes) <= MOST_APART and table < blocks:
+        if flags <= GROUP_FLAGS and 0 < used <= it.inodes and folders <= used and abs(bitmap - inodes) <= MAX_APART and table < blocks:
             yield table * it.block
 
 
@@ -108,13 +108,13 @@ def run_of(start: int, place: int, length: int, data: int) -> tuple[int, int]:
     """Return the sectors of each image that hold some bytes of a file system, counted from its own start, which lies at a sector of some image, with
     so many data disks: a chunk more on both sides."""
     first = start + place // data // SECTOR
-    return first - MOST_CHUNK, first + length // data // SECTOR + MOST_CHUNK
+    return first - MAX_CHUNK, first + length // data // SECTOR + MAX_CHUNK
 
 
 def far_runs(asked: Asked, start: Start, places: Sequence[int], most: int) -> list[tuple[int, int]]:
     """Return the runs of sectors of so many tables at most, all over the images behind what is surveyed, in which some image holds something."""
     runs = sorted({run_of(start.sector, place, TABLE * SECTOR * data, data) for place in places for data in asked.data})
-    behind = [(first, min(end, asked.end)) for first, end in runs if asked.near <= first and end <= asked.end + MOST_CHUNK]
+    behind = [(first, min(end, asked.end)) for first, end in runs if asked.near <= first and end <= asked.end + MAX_CHUNK]
     held = [(first, end) for first, end in behind if extents.held_by_any(asked.names, first, end)]
     return [held[number] for number in picked(len(held), most)]
 
@@ -122,14 +122,14 @@ def far_runs(asked: Asked, start: Start, places: Sequence[int], most: int) -> li
 def again(plan: Plan, end: int) -> list[tuple[int, int]]:
     """Return runs of sectors around the landmarks of a survey, so that they are seen beside others."""
     places = sorted({mark.sector for mark in plan.marks()})
-    return [(max(0, places[number] - AROUND), min(end, places[number] + AROUND)) for number in picked(len(places), MOST_AGAIN)]
+    return [(max(0, places[number] - AROUND), min(end, places[number] + AROUND)) for number in picked(len(places), MAX_AGAIN)]
 
 
 def runs(plan: Plan, asked: Asked) -> tuple[tuple[int, int], ...]:
     """Return what is surveyed for the far tables of the file systems of a plan: these, and what was seen before; nothing if there are none. All of it
     fits into memory."""
-    each = (TABLE + 2 * MOST_CHUNK) * SECTOR * len(asked.names)
-    most = max(2, min(MOST_TABLES, compact.MOST_BYTES // each))
+    each = (TABLE + 2 * MAX_CHUNK) * SECTOR * len(asked.names)
+    most = max(2, min(MAX_TABLES, compact.MAX_BYTES // each))
     found, beside = list[tuple[int, int]](), list[tuple[int, int]]()
     told = list(starts(plan, asked.heads))
     for start in told:

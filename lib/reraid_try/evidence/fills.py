@@ -1,6 +1,6 @@
 """Texts that stand in an image in place of what an imaging program could not read, where no map says so. A volume may hold such texts too. Parity
 tells them apart if fewer disks are lost than the level bears: it holds in the rows beside such a text and fails in it. Ordinary contents that repeat
-are tied by chance, so only parity of all images of a family counts."""
+are tied by chance, so only parity of all images of a group counts."""
 
 import collections
 import dataclasses
@@ -12,8 +12,8 @@ from typing import Any
 
 from ..errors import OutsideError, said
 from ..units import SECTOR, counted
-from . import families, reading, texts
-from .families import LEVEL_5, LEVEL_6, Family
+from . import image_groups, reading, texts
+from .image_groups import LEVEL_5, LEVEL_6, ImageGroup
 from .images import Image
 from .relations import Relations, Rows
 from .texts import Held
@@ -21,11 +21,11 @@ from .ties import Ties, Told, step_of
 
 # A text of which parity tells nothing counts where it fills so many sectors. Ties are asked in so many places of a text, and so many rows of each;
 # of so many of these places one may speak against it.
-LEAST_UNTOLD, MOST_PLACES, MOST_ROWS, FEW_STORED = 8, 8, 16, 10
+MIN_UNTOLD, MAX_PLACES, MAX_ROWS, FEW_STORED = 8, 8, 16, 10
 # Parity tells of so many images at least. An old disk breaks parity in many rows: in so many rows more, and in so many times as many, as texts do.
-LEAST_TELLING, FEW_LOOSE, MOST_LOOSE = 3, 4, 2
+MIN_TELLING, FEW_LOOSE, MAX_LOOSE = 3, 4, 2
 # The most characters of a map that is printed.
-MOST_TYPED = 1000
+MAX_TYPED = 1000
 
 
 class Why(enum.Enum):
@@ -36,26 +36,26 @@ class Why(enum.Enum):
     UNTOLD = "untold"
 
 
-def telling(told: Told) -> list[Family]:
-    """Return the families whose parity tells whether a sector is right: fewer disks are lost than the level bears."""
-    return [it.family for it in told.known if it.family.level in (LEVEL_5, LEVEL_6) and it.family.parity and len(it.family.current) >= LEAST_TELLING]
+def telling(told: Told) -> list[ImageGroup]:
+    """Return the groups whose parity tells whether a sector is right: fewer disks are lost than the level bears."""
+    return [it.group for it in told.known if it.group.level in (LEVEL_5, LEVEL_6) and it.group.parity and len(it.group.current) >= MIN_TELLING]
 
 
-def family_of(found: Iterable[Family], image: int) -> Family | None:
-    """Return the family of one image; None if parity tells nothing of it."""
+def group_of(found: Iterable[ImageGroup], image: int) -> ImageGroup | None:
+    """Return the group of one image; None if parity tells nothing of it."""
     return next((it for it in found if image in it.current), None)
 
 
 def holds(rows: Rows, images: frozenset[int]) -> bool:
     """Parity ties all of these images that are not zeros in some rows."""
-    return images - rows.zero <= families.tied_images(rows.ties)
+    return images - rows.zero <= image_groups.tied_images(rows.ties)
 
 
-def holds_beside(found: Relations | None, family: Family) -> bool:
+def holds_beside(found: Relations | None, group: ImageGroup) -> bool:
     """Parity holds on one side of a run of sectors at least: on the other one sectors of another image may be unread. Rows of zeros alone count
     within the array."""
-    images = frozenset(family.current)
-    return any(holds(it, images) and (not images <= it.zero or family.first <= it.first <= family.last) for it in (found.rows if found else ()))
+    images = frozenset(group.current)
+    return any(holds(it, images) and (not images <= it.zero or group.first <= it.first <= group.last) for it in (found.rows if found else ()))
 
 
 def in_run(found: Relations | None, images: frozenset[int]) -> Why:
@@ -68,25 +68,26 @@ def in_run(found: Relations | None, images: frozenset[int]) -> Why:
     return Why.UNTOLD if total == 0 else Why.UNREAD if 2 * loose > total else Why.STORED
 
 
-def of_run(ties: Ties, family: Family, run: tuple[int, int], end: int) -> Why:
-    """Return what parity of a family says of a run of sectors, by its rows, and by those right before and behind it, of images of so many sectors."""
+def of_run(ties: Ties, group: ImageGroup, run: tuple[int, int], end: int) -> Why:
+    """Return what parity of a group says of a run of sectors, by its rows, and by those right before and behind it, of images of so many
+    sectors."""
     first, stop = run
     beside = range(first - 1 if first else stop, min(stop + 1, end), stop - first + 1)
     if stop > end or not beside:
         return Why.UNTOLD
-    told = in_run(ties.relations(family.current, first, stop, -(-(stop - first) // MOST_ROWS)), frozenset(family.current))
+    told = in_run(ties.relations(group.current, first, stop, -(-(stop - first) // MAX_ROWS)), frozenset(group.current))
     if told is not Why.UNREAD:
         return told
-    return told if holds_beside(ties.relations(family.current, beside.start, beside.stop, beside.step), family) else Why.UNTOLD
+    return told if holds_beside(ties.relations(group.current, beside.start, beside.stop, beside.step), group) else Why.UNTOLD
 
 
-def asked(ties: Ties, images: Sequence[Image], found: Iterable[Family], image: int, it: Held) -> Why:
+def asked(ties: Ties, images: Sequence[Image], found: Iterable[ImageGroup], image: int, it: Held) -> Why:
     """Return what parity says of a text of an image, by some of the places where it stands."""
-    family = family_of(found, image)
-    if family is None:
+    group = group_of(found, image)
+    if group is None:
         return Why.UNTOLD
-    end, step = min(other.sectors for other in images if other.number in family.current), -(-len(it.runs) // MOST_PLACES)
-    told = [of_run(ties, family, run, end) for run in it.runs[::step]]
+    end, step = min(other.sectors for other in images if other.number in group.current), -(-len(it.runs) // MAX_PLACES)
+    told = [of_run(ties, group, run, end) for run in it.runs[::step]]
     if told.count(Why.UNREAD) > FEW_STORED * told.count(Why.STORED):
         return Why.UNREAD
     return Why.STORED if Why.STORED in told else Why.UNTOLD
@@ -107,7 +108,7 @@ class Fill:
         return self.why is Why.UNREAD and self.image.map is None
 
     def line(self) -> str:
-        """What is said of it."""
+        """Return it as one line of text."""
         it, (first, last) = self.held, (self.held.runs[0][0], self.held.runs[-1][1] - 1)
         places = f"from sector {first} to {last}" + (f", in {counted(len(it.runs), 'place')}" if len(it.runs) > 1 else "")
         numbers = ", with a running number," if it.varies else ""
@@ -128,7 +129,7 @@ class Fill:
     def remedy(self) -> str:
         """Return how to make a map that calls these sectors unread."""
         target, text = shlex.quote(self.image.called + ".map"), self.map_text.replace("\n", "\\n")
-        if len(text) <= MOST_TYPED:
+        if len(text) <= MAX_TYPED:
             return f"write a mapfile and run again:\n    printf '{text}' > {target}"
         return f"save the mapfile that --json prints in the event fill as {target}, and run again"
 
@@ -142,11 +143,11 @@ class Fill:
 def is_told(it: Fill, alike: int, images: int) -> bool:
     """It is worth a line: parity does not go over the text; or nothing is known of one for people, which stands there over and over or counts on, and
     in fewer images than not."""
-    long = it.held.sectors >= LEAST_UNTOLD and (it.held.text.again or it.held.varies)
+    long = it.held.sectors >= MIN_UNTOLD and (it.held.text.again or it.held.varies)
     return it.why is Why.UNREAD or it.why is Why.UNTOLD and long and it.held.text.has_words and 2 * alike < images
 
 
-def of_image(ties: Ties, images: Sequence[Image], found: Sequence[Family], image: Image, length: int) -> list[Fill]:
+def of_image(ties: Ties, images: Sequence[Image], found: Sequence[ImageGroup], image: Image, length: int) -> list[Fill]:
     """The texts in so many first bytes of one of these images, where its map calls nothing unread, but for those that parity goes over."""
     gaps = image.map.gaps(length // SECTOR) if image.map else []
     try:
@@ -159,11 +160,11 @@ def of_image(ties: Ties, images: Sequence[Image], found: Sequence[Family], image
     return [Fill(image, it, whys[it.text.like], length // SECTOR) for it in all_of]
 
 
-def explained(found: Sequence[Fill], family: Family, step: int) -> bool:
-    """Texts are where most rows are in which parity of a family fails, of rows that lie so many sectors apart. Else a disk is old, and parity that
-    fails says nothing of a text."""
-    rows = sum(it.held.sectors for it in found if it.why is Why.UNREAD and it.image.number in family.current) // step
-    return family.loose <= FEW_LOOSE + MOST_LOOSE * rows
+def explained(found: Sequence[Fill], group: ImageGroup, step: int) -> bool:
+    """Texts are where most rows are in which parity of a group fails, of rows that lie so many sectors apart. Else a disk is old, and parity
+    that fails says nothing of a text."""
+    rows = sum(it.held.sectors for it in found if it.why is Why.UNREAD and it.image.number in group.current) // step
+    return group.loose <= FEW_LOOSE + MAX_LOOSE * rows
 
 
 def told(ties: Ties, images: Sequence[Image], first_bytes: int) -> list[Fill]:
@@ -178,9 +179,9 @@ def told(ties: Ties, images: Sequence[Image], first_bytes: int) -> list[Fill]:
         found = list(itertools.chain.from_iterable(reading.by_disk([image.name for image in there], of)))
     except OSError as error:
         raise OutsideError(f"an image cannot be read: {said(error)}") from error
-    for family in known:
-        if not explained(found, family, step_of(0, end)):
-            found = [dataclasses.replace(it, why=Why.UNTOLD) if it.image.number in family.current else it for it in found]
+    for group in known:
+        if not explained(found, group, step_of(0, end)):
+            found = [dataclasses.replace(it, why=Why.UNTOLD) if it.image.number in group.current else it for it in found]
     alike = collections.Counter(it.held.text.like for it in found)
     return [it for it in found if is_told(it, alike[it.held.text.like], len(there))]
 

@@ -16,15 +16,15 @@ from .surveying import LargeSurveys
 from .tables import Table
 
 # So many sectors of each member are tested for parity at most.
-MOST_WINDOW = 524288
+MAX_WINDOW = 524288
 # Where a file system may begin in any case.
 USUAL_ORIGINS = (0, 2048)
 # A first mark so far behind one of a group that as many images show is mostly a stray one: its offset is tried with more offsets alone.
 FAR = 8192
 # So many offsets of the hints are tried from the start, and so many are said; so many origins, and partitions of a table.
-MOST_FIRST, MOST_TOLD, MOST_ORIGINS, MOST_PARTITIONS, MOST_OWN = 8, 12, 16, 4, 2
+MAX_FIRST, MAX_TOLD, MAX_ORIGINS, MAX_PARTITIONS, MAX_OWN = 8, 12, 16, 4, 2
 # Where maps call more than one in so many of the filled sectors unread, so many bad rows are asked for only where nothing passes without.
-MOST_UNREAD = 4
+MAX_UNREAD = 4
 
 
 @dataclasses.dataclass(frozen=True)
@@ -72,7 +72,7 @@ class Evidence:
     @functools.cached_property
     def unread(self) -> int:
         """How many rows maps call unread, 0 where these are too many."""
-        return self.bad if MOST_UNREAD * self.bad <= self.filled else 0
+        return self.bad if MAX_UNREAD * self.bad <= self.filled else 0
 
     @property
     def offset_values(self) -> list[int]:
@@ -110,10 +110,10 @@ def offsets_tried(found: Sequence[Hint], images: Sequence[Image], pairs: Pairs |
     """The offsets that are tried first: those of the hints, and the usual ones behind a start."""
     values = [hint.value for hint in found]
     if not pairs:
-        values = [hint.value for hint in found if not is_far(hint, found)][:MOST_FIRST]
-        starts = {it.first for image in images if image.table.own for it in image.table.partitions[:MOST_OWN]}
+        values = [hint.value for hint in found if not is_far(hint, found)][:MAX_FIRST]
+        starts = {it.first for image in images if image.table.own for it in image.table.partitions[:MAX_OWN]}
         values += [one + usual for one in {start, *starts} for usual in hints.USUAL_OFFSETS]
-    return tuple(sorted({value for value in values if value < end})[:surveys.MOST_VALUES]) or (start,)
+    return tuple(sorted({value for value in values if value < end})[:surveys.MAX_VALUES]) or (start,)
 
 
 def offset_hints(plan: Plan, images: Sequence[Image], pairs: Pairs | None, data: Sequence[Hint]) -> list[Hint]:
@@ -121,7 +121,7 @@ def offset_hints(plan: Plan, images: Sequence[Image], pairs: Pairs | None, data:
     if pairs and pairs.offsets:
         return [Hint(What.OFFSET, value, Source.MIRRORS, "the mirrors") for value in pairs.offsets]
     heads = sorted((head for image in images for head in image.heads), key=lambda head: head.sector)
-    found = hints.by_images(hints.own_offsets(images, MOST_PARTITIONS) + hints.offsets(plan, heads))
+    found = hints.by_images(hints.own_offsets(images, MAX_PARTITIONS) + hints.offsets(plan, heads))
     if pairs:
         return found
     return found + hints.placed_offsets(plan, [hint.value for hint in data], USUAL_ORIGINS, {hint.value for hint in found})
@@ -130,7 +130,7 @@ def offset_hints(plan: Plan, images: Sequence[Image], pairs: Pairs | None, data:
 def gather(made: Surveys, images: Sequence[Image], first: int, pairs: Pairs | None = None, start: int = 0) -> Evidence:
     """What is known of these images, of which the first bytes behind a start are read; with `pairs` of a RAID 0 of one image of each pair."""
     end = min(min(image.sectors for image in images), start + first // SECTOR)
-    window = min(end, MOST_WINDOW)
+    window = min(end, MAX_WINDOW)
     base = Request().having(kinds=surveys.KINDS, offsets=start, end=end, origins=listed(USUAL_ORIGINS))
     by_number = {image.number: image for image in images}
     plan = numbered(made.plan(base), images)
@@ -148,14 +148,14 @@ def gather(made: Surveys, images: Sequence[Image], first: int, pairs: Pairs | No
     levels = [] if mirrored else hints.level(plan, heads)
     bad = hints.bad_rows(images, end)
     ends = hints.own_end(images, end)
-    told = [] if pairs and pairs.same else offsets[:MOST_TOLD]
-    said = [*blocks, *ends, *told, *data, *levels, *origins[:MOST_ORIGINS], *bad]
+    told = [] if pairs and pairs.same else offsets[:MAX_TOLD]
+    said = [*blocks, *ends, *told, *data, *levels, *origins[:MAX_ORIGINS], *bad]
     asked = set(USUAL_ORIGINS) | {hint.value for hint in origins} | deeper(origins, plan)
     if ends:
         end = ends[0].value
         window = min(window, end)
     tried = offsets_tried(offsets, images, pairs, end, start)
-    base = base.having(origins=listed(sorted(asked)[:surveys.MOST_VALUES]), offsets=listed(tried), end=end)
+    base = base.having(origins=listed(sorted(asked)[:surveys.MAX_VALUES]), offsets=listed(tried), end=end)
     if window < end:
         base = base.having(window=window)
     flags = made.shared.flags if isinstance(made, LargeSurveys) and sampling.is_large(start, end) else None

@@ -11,9 +11,9 @@ from . import bcache, reading, tables
 # So many bytes tell what something begins with, and so many sectors.
 HEAD_BYTES = 264 * SECTOR
 # The first superblock of ext: where it stands, in sectors and in bytes, and how large a block is at most, as the power of two of 1,024 bytes.
-EXT_SECTORS, EXT_PLACE, MOST_EXT_BLOCK = 2, 1024, 6
+EXT_SECTORS, EXT_PLACE, MAX_EXT_BLOCK = 2, 1024, 6
 # So many heads are found on one image.
-MOST_HEADS = 64
+MAX_HEADS = 64
 
 
 def always(_: bytes) -> bool:
@@ -26,7 +26,7 @@ def is_ext(sector: bytes) -> bool:
     if len(sector) < SECTOR or sector[56:58] != b"\x53\xef" or sector[90:92] != b"\0\0":
         return False
     code, per_group = struct.unpack_from("<I", sector, 24)[0], struct.unpack_from("<I", sector, 32)[0]
-    return bool(code <= MOST_EXT_BLOCK and 0 < per_group <= 8 * (1024 << code) and struct.unpack_from("<I", sector, 4)[0] > 0)
+    return bool(code <= MAX_EXT_BLOCK and 0 < per_group <= 8 * (1024 << code) and struct.unpack_from("<I", sector, 4)[0] > 0)
 
 
 def is_first_ext(head: bytes) -> bool:
@@ -41,7 +41,7 @@ def is_fat(head: bytes) -> bool:
 
 
 @dataclasses.dataclass(frozen=True)
-class Sign:
+class Signature:
     """What something begins with: its type as `blkid` has it, the bytes at a place, and what else must hold of its first bytes."""
 
     kind: str
@@ -54,28 +54,28 @@ class Sign:
         return head[self.place:self.place + len(self.magic)] == self.magic and self.holds(head)
 
 
-SIGNS = (
-    Sign("crypto_LUKS", 0, b"LUKS\xba\xbe"),
-    Sign("BitLocker", 3, b"-FVE-FS-"),
-    Sign("xfs", 0, b"XFSB"),
-    Sign("ntfs", 3, b"NTFS    "),
-    Sign("exfat", 3, b"EXFAT   "),
-    Sign("ext4", EXT_PLACE + 56, b"\x53\xef", is_first_ext),
-    Sign("btrfs", 65536 + 64, b"_BHRfS_M"),
-    Sign("jfs", 32768, b"JFS1"),
-    Sign("reiserfs", 65536 + 52, b"ReIsEr"),
-    *(Sign("LVM2_member", place, b"LABELONE") for place in range(0, 4 * SECTOR, SECTOR)),
-    Sign("vfat", 82, b"FAT32   ", is_fat),
-    Sign("vfat", 54, b"FAT16   ", is_fat),
-    Sign(bcache.KIND, bcache.PLACE * SECTOR + bcache.MAGIC_PLACE, bcache.MAGIC),
+SIGNATURES = (
+    Signature("crypto_LUKS", 0, b"LUKS\xba\xbe"),
+    Signature("BitLocker", 3, b"-FVE-FS-"),
+    Signature("xfs", 0, b"XFSB"),
+    Signature("ntfs", 3, b"NTFS    "),
+    Signature("exfat", 3, b"EXFAT   "),
+    Signature("ext4", EXT_PLACE + 56, b"\x53\xef", is_first_ext),
+    Signature("btrfs", 65536 + 64, b"_BHRfS_M"),
+    Signature("jfs", 32768, b"JFS1"),
+    Signature("reiserfs", 65536 + 52, b"ReIsEr"),
+    *(Signature("LVM2_member", place, b"LABELONE") for place in range(0, 4 * SECTOR, SECTOR)),
+    Signature("vfat", 82, b"FAT32   ", is_fat),
+    Signature("vfat", 54, b"FAT16   ", is_fat),
+    Signature(bcache.KIND, bcache.PLACE * SECTOR + bcache.MAGIC_PLACE, bcache.MAGIC),
 )
 
 
 def sniff(head: bytes) -> str | None:
     """What these bytes are the head of; None where that is nothing known."""
-    for sign in SIGNS:
-        if sign.is_on(head):
-            return sign.kind
+    for signature in SIGNATURES:
+        if signature.is_on(head):
+            return signature.kind
     return tables.read_table(lambda place, count: head[place:place + count], len(head) // SECTOR).kind
 
 
@@ -93,8 +93,8 @@ class Head:
 SOUGHT: tuple[tuple[str, int, int, int, Callable[[bytes], bool]], ...] = (
     ("mbr", SECTOR - 1, 0xAA, 0, lambda sector: bool(tables.read_mbr(sector))),
     ("ext", 57, 0xEF, EXT_SECTORS, is_ext),
-    ("luks", 0, 0x4C, 0, SIGNS[0].is_on),
-    ("bitlocker", 3, 0x2D, 0, SIGNS[1].is_on),
+    ("luks", 0, 0x4C, 0, SIGNATURES[0].is_on),
+    ("bitlocker", 3, 0x2D, 0, SIGNATURES[1].is_on),
     (bcache.KIND, bcache.MAGIC_PLACE, bcache.MAGIC[0], bcache.PLACE, bcache.is_superblock),
 )
 # Those that say where a volume begins without saying anything of a level.
@@ -110,6 +110,6 @@ def find_heads(file: BinaryIO, number: int, last: int) -> tuple[Head, ...]:
                 first = place // SECTOR + sector - behind
                 if first >= 0 and holds(block[sector * SECTOR:(sector + 1) * SECTOR]):
                     found.append(Head(kind, number, first))
-        if len(found) > MOST_HEADS:
+        if len(found) > MAX_HEADS:
             break
     return tuple(found)

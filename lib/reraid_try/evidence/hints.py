@@ -18,13 +18,13 @@ from .images import Image, unread_by
 USUAL_OFFSETS = (0, 2048, 262144, 264192)
 MORE_OFFSETS = (16, 272, 1024, 4096, 6144, 8192, 10240, 16384, 18432, 32768, 34816, 65536, 67584, 131072, 133120)
 # Of so many marks of a group, and so many allocation groups, an offset is worked out, and so many offsets are taken.
-MOST_MARKS, MOST_STEPS, MOST_PLACED = 64, 64, 6
+MAX_MARKS, MAX_STEPS, MAX_PLACED = 64, 64, 6
 # An offset that is worked out explains more than so many places, and so much of all.
-FEW_PLACES, MOST_OF_PLACES = 2, 3 / 4
+FEW_PLACES, MAX_OF_PLACES = 2, 3 / 4
 # Numbers of data disks: the least, how far from a whole number a ratio of distances may be, as a part of it, and how many are taken.
-LEAST_DATA, NEAR_RATIO, MOST_DATA = 2, 0.2, 3
+MIN_DATA, NEAR_RATIO, MAX_DATA = 2, 0.2, 3
 # Marks that are nearer to one another, in sectors, tell no ratio.
-LEAST_APART = 64
+MIN_APART = 64
 # Of the text behind a label of LVM2 so much is read.
 LVM_TEXT = 2 * MIB
 # How far behind the MBR the header of a table stands where blocks have 4,096 bytes.
@@ -78,7 +78,7 @@ class Hint:
     spread: int = 1
 
     def line(self) -> str:
-        """What is said of it."""
+        """Return it as one line of text."""
         return f"hint: {PRINTED[self.what].format(self.value)}, from {self.why}"
 
 
@@ -147,7 +147,7 @@ def distances(mark: Mark) -> list[int]:
     if mark.step is None or not mark.step:
         return mark.numbers
     step, count, plus = mark.numbers
-    return [step * k + plus for k in range(min(count, MOST_STEPS))]
+    return [step * k + plus for k in range(min(count, MAX_STEPS))]
 
 
 @dataclasses.dataclass(frozen=True)
@@ -168,14 +168,14 @@ class Explained:
 
 def explained(plan: Plan, group: Group, data: Sequence[int], origins: Sequence[int]) -> dict[int, Explained]:
     """The offsets that explain the places of most marks of a group, each with the most that it explains."""
-    marks = {mark.sector: mark for mark in group.marks[:MOST_MARKS] if mark.kind != "record"}
+    marks = {mark.sector: mark for mark in group.marks[:MAX_MARKS] if mark.kind != "record"}
     here: dict[int, Explained] = {}
     for disks, chunk, origin in itertools.product(data, plan.numbers("chunks"), origins):
         votes: collections.Counter[int] = collections.Counter()
         for sector, mark in marks.items():
             votes.update({sector - (place // (chunk * disks) * chunk + place % chunk) for place in (origin + it for it in distances(mark))})
         for value, count in votes.items():
-            enough = value >= 0 and count > FEW_PLACES and count >= MOST_OF_PLACES * len(marks)
+            enough = value >= 0 and count > FEW_PLACES and count >= MAX_OF_PLACES * len(marks)
             if enough and (value not in here or count > here[value].count):
                 here[value] = Explained(count, group, disks, chunk)
     return here
@@ -192,7 +192,7 @@ def placed_offsets(plan: Plan, data: Sequence[int], origins: Sequence[int], told
         if not any(here[value].count == most for value in told if value in here) and here:
             found = here | found
     order = sorted(found, key=lambda value: (-found[value].count, value))
-    return [found[value].hint(value) for value in order if value not in told][:MOST_PLACED]
+    return [found[value].hint(value) for value in order if value not in told][:MAX_PLACED]
 
 
 def ratios(marks: Sequence[Mark]) -> Iterator[float]:
@@ -207,7 +207,7 @@ def ratios(marks: Sequence[Mark]) -> Iterator[float]:
     places = sorted({(max(mark.numbers) if mark.kind == "boot" and place else mark.nearest, mark.sector)
                      for place, mark in enumerate(marks) if mark.kind not in ("record", *UNPLACED) and not mark.step})
     for near, far in itertools.product(places, places):
-        if far[1] - near[1] > LEAST_APART and far[0] > near[0]:
+        if far[1] - near[1] > MIN_APART and far[0] > near[0]:
             yield (far[0] - near[0]) / (far[1] - near[1])
 
 
@@ -220,12 +220,12 @@ def data_disks(plan: Plan, most: int) -> list[Hint]:
     for group in sorted(plan.groups, key=lambda group: -len(group.images())):
         for ratio in ratios(group.marks):
             near = round(ratio)
-            if LEAST_DATA <= near <= most and abs(ratio - near) <= NEAR_RATIO * near:
+            if MIN_DATA <= near <= most and abs(ratio - near) <= NEAR_RATIO * near:
                 votes[near] += 1
                 shown[near] = max(shown[near], len(group.images()))
                 why.setdefault(near, f"the distances between landmarks of {group.name()}")
     order = sorted(votes, key=lambda value: (-shown[value], -votes[value]))
-    return [Hint(What.DATA, value, Source.DISTANCES, why[value], shown[value]) for value in order[:MOST_DATA]]
+    return [Hint(What.DATA, value, Source.DISTANCES, why[value], shown[value]) for value in order[:MAX_DATA]]
 
 
 # The level at which so many images show one sector: its own, P, and Q with the weight one.
@@ -300,9 +300,9 @@ def logical(plan: Plan, images: Mapping[int, Image]) -> list[Hint]:
     for mark in plan.marks():
         if mark.kind == "gpt" and mark.nearest == 1 and mark.sector >= LARGE_SECTORS:
             name = images[mark.image].name
-            if tables.read_mbr(read_at(name, mark.sector - 1), 2 * tables.MOST_MBR):
+            if tables.read_mbr(read_at(name, mark.sector - 1), 2 * tables.MAX_MBR):
                 small.add(mark.image)
-            elif tables.read_mbr(read_at(name, mark.sector - LARGE_SECTORS), 2 * tables.MOST_MBR):
+            elif tables.read_mbr(read_at(name, mark.sector - LARGE_SECTORS), 2 * tables.MAX_MBR):
                 large[mark.image] = f"an MBR eight sectors before a GPT header on image {mark.image}"
     if len(large) <= len(small):
         return []

@@ -19,7 +19,7 @@ LVM_SIZE = 64
 # A file system that covers half of its image is what the image is for.
 HALF = 2
 # So many partitions are looked at.
-MOST_PARTITIONS = 16
+MAX_PARTITIONS = 16
 
 
 @dataclasses.dataclass(frozen=True)
@@ -65,7 +65,7 @@ def home_at(image: Image, first: int) -> Home | None:
 def homes(image: Image) -> Iterator[Home]:
     """Yield the file systems that begin where disks, partitions and members usually do."""
     usual = [place for place in USUAL_OFFSETS if place < image.sectors]
-    for first in dict.fromkeys([*places(image)[:MOST_PARTITIONS], *usual]):
+    for first in dict.fromkeys([*places(image)[:MAX_PARTITIONS], *usual]):
         if found := home_at(image, first):
             yield found
 

@@ -19,7 +19,7 @@ from .tables import Table
 HEAD = 270336 * SECTOR
 # So many sectors, spread over two images, tell that they are not the same. Of large images so many sectors, and so many first bytes, tell that they
 # are.
-SAMPLES, MORE_SAMPLES, MOST_COMPARED = 64, 1024, 2 * GIB
+SAMPLES, MORE_SAMPLES, MAX_COMPARED = 64, 1024, 2 * GIB
 
 
 @dataclasses.dataclass(frozen=True)
@@ -52,7 +52,7 @@ class Image:
         return self.opened.name if self.opened else self.name
 
     def line(self) -> str:
-        """What is said of it."""
+        """Return it as one line of text."""
         parts = [f"image {self.number} {self.called}: {self.sectors} sectors"]
         if self.rest:
             parts[0] += f" and {counted(self.rest, 'byte')} after the last whole sector, which {'is' if self.rest == 1 else 'are'} ignored"
@@ -175,10 +175,10 @@ def equal(one: Image, other: Image, bound: int) -> bool:
     with open(one.name, "rb") as left, open(other.name, "rb") as right:
         if samples(left, length) != samples(right, length):
             return False
-        if bound > MOST_COMPARED and length > MOST_COMPARED:
+        if bound > MAX_COMPARED and length > MAX_COMPARED:
             if samples(left, length, MORE_SAMPLES) != samples(right, length, MORE_SAMPLES):
                 return False
-            bound = MOST_COMPARED
+            bound = MAX_COMPARED
         for place in range(0, min(bound, length), reading.STEP):
             if reading.is_hole(left, place, place + reading.STEP) and reading.is_hole(right, place, place + reading.STEP):
                 continue

@@ -10,7 +10,7 @@ from ..units import SECTOR
 # The statuses of blocks, of which one is that of what was read, and those of what was done last.
 READ, STATUSES, STEPS = "+", "?*/-+", "?*/-FG+"
 # Numbers of bytes are less than this.
-MOST_BYTES = 1 << 64
+MAX_BYTES = 1 << 64
 
 
 @dataclasses.dataclass(frozen=True)
@@ -78,7 +78,7 @@ def read_map(name: str) -> Map:
         try:
             first, length = int(words[0], 0), int(words[1], 0)
             good = len(words) == 3 and words[2] in STATUSES and len(words[2]) == 1 and length > 0 and (first == after or not blocks)
-            good = good and first + length < MOST_BYTES
+            good = good and first + length < MAX_BYTES
         except (ValueError, IndexError):
             good = False
         if not good:

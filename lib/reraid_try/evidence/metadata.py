@@ -17,7 +17,7 @@ from .shared import Place
 MDADM = "mdadm"
 # Where Debian has it, which is not on the PATH of everybody.
 SYSTEM_FOLDERS = "/usr/sbin:/sbin"
-MOST_SECONDS = 10
+MAX_SECONDS = 10
 # So much of the start and of the end of a partition holds the metadata of md.
 KEPT = MIB
 # So much of an image behind a label of LVM2 holds its text.
@@ -62,7 +62,7 @@ class Member:
     events: int | None = None
 
     def line(self, name: str) -> str:
-        """What is said of it."""
+        """Return it as one line of text."""
         said = [f"{self.level} of {counted(self.disks, 'disk')}", self.layout, f"chunks of {self.chunk // KIB_SECTORS} KiB" if self.chunk else "",
                 "" if self.slot is None else f"slot {self.slot}", "" if self.offset is None else f"data offset {self.offset} sectors",
                 "" if self.events is None else counted(self.events, "event")]
@@ -150,7 +150,7 @@ def examine(runner: Runner, folder: str, names: Mapping[int, str], place: Place 
         if place:
             path = os.path.join(folder, f"{image}.excerpt")
             excerpt(name, place, path)
-        answer = runner.run([program or MDADM, "--examine", path], seconds=MOST_SECONDS)
+        answer = runner.run([program or MDADM, "--examine", path], seconds=MAX_SECONDS)
         if place:
             os.remove(path)
         if answer.good and (member := read_examined(answer.out, image, place.first if place else 0)):

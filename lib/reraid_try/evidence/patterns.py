@@ -11,15 +11,15 @@ from ..units import SECTOR
 from .relations import Relations, Rows
 
 # A sector that can be packed to fewer bytes is a pattern.
-MOST_PACKED = 256
+MAX_PACKED = 256
 # If fewer rows are left in which two images hold something, there is hardly anything but patterns, and all rows count.
-LEAST_ROWS = 64
+MIN_ROWS = 64
 ZERO = bytes(SECTOR)
 
 
 def is_pattern(sector: bytes) -> bool:
     """Return whether a sector has much less in it than it is long."""
-    return len(sector) == SECTOR and len(zlib.compress(sector, 1)) < MOST_PACKED
+    return len(sector) == SECTOR and len(zlib.compress(sector, 1)) < MAX_PACKED
 
 
 def kept_rows(rows: Rows, step: int, is_tied_by_patterns: Callable[[Rows, int], bool]) -> Iterator[Rows]:
@@ -49,7 +49,7 @@ def without(found: Relations, held: Callable[[int, int], bytes], images: int) ->
         return any(all(repeats(image, row) for image in tie.images) for tie in rows.ties)
     kept = tuple(it for rows in found.rows for it in kept_rows(rows, found.step, is_tied_by_patterns))
     telling = sum(rows.count(found.step) for rows in kept if images - len(rows.zero) > 1)
-    return dataclasses.replace(found, rows=kept) if telling >= LEAST_ROWS else found
+    return dataclasses.replace(found, rows=kept) if telling >= MIN_ROWS else found
 
 
 class Sectors:

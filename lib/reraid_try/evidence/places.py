@@ -12,17 +12,17 @@ from collections.abc import Callable, Iterable, Iterator, Mapping, Sequence
 from fractions import Fraction
 
 from ..calls.sets import LEVELS, Word, made, staying
-from .families import LEVEL_5, ties_among
+from .image_groups import LEVEL_5, ties_among
 from .relations import Relations
 
 CHUNKS = (8, 16, 32, 64, 128, 256, 512, 1024, 2048)
 # So many rows have to say something; a placement is held for possible where one in so many of them speaks against it at most, since equal data
 # cancel, and where hardly more do than against the best: one in so many more.
-LEAST_ROWS, FEW_AGAINST, FEW_MORE = 24, 8, 50
+MIN_ROWS, FEW_AGAINST, FEW_MORE = 24, 8, 50
 # Of so many placements the order of the disks is worked out, and so many orders are told; of more disks none is.
-MOST_WORKED, MOST_TOLD, MOST_MEMBERS = 96, 64, 12
+MAX_WORKED, MAX_TOLD, MAX_MEMBERS = 96, 64, 12
 # So many rows are looked at, spread over the images.
-MOST_ROWS = 16384
+MAX_ROWS = 16384
 
 
 @dataclasses.dataclass(frozen=True)
@@ -158,7 +158,7 @@ class Places:
     @property
     def told(self) -> bool:
         """Enough rows say something."""
-        return len(self.seen) >= LEAST_ROWS and self.members <= MOST_MEMBERS
+        return len(self.seen) >= MIN_ROWS and self.members <= MAX_MEMBERS
 
     @functools.cache
     def costs(self, turn: Turn, chunk: int, offset: int) -> Costs:
@@ -189,7 +189,7 @@ class Places:
         if turn is None or word.is_each or not self.told or not alike:
             return None
         costs = self.costs(turn, word.chunk * word.delay, word.offset)
-        if costs.rows < LEAST_ROWS:
+        if costs.rows < MIN_ROWS:
             return None
         return Fraction(costs.of([None if image is None else self.images.index(image) for image in word.slots]), costs.rows)
 
@@ -204,10 +204,10 @@ class Places:
         if not self.told:
             return []
         found = [(costs.least, turn, chunk, offset) for offset in offsets for turn in self.turns if not turn.fixed for chunk in chunks
-                 if (costs := self.costs(turn, chunk, offset)).rows >= LEAST_ROWS and FEW_AGAINST * costs.least <= costs.rows]
-        worked = [self.worked(turn, chunk, offset) for _, turn, chunk, offset in sorted(found, key=lambda it: it[0])[:MOST_WORKED]]
+                 if (costs := self.costs(turn, chunk, offset)).rows >= MIN_ROWS and FEW_AGAINST * costs.least <= costs.rows]
+        worked = [self.worked(turn, chunk, offset) for _, turn, chunk, offset in sorted(found, key=lambda it: it[0])[:MAX_WORKED]]
         good = sorted((it for it in worked if FEW_AGAINST * it.against <= it.rows), key=lambda it: it.against)
-        return [it for it in good if FEW_MORE * (it.against - good[0].against) <= it.rows][:MOST_TOLD]
+        return [it for it in good if FEW_MORE * (it.against - good[0].against) <= it.rows][:MAX_TOLD]
 
     def worked(self, turn: Turn, chunk: int, offset: int) -> Placement:
         """The order of the images against which fewest rows speak."""

@@ -17,7 +17,7 @@ BTRFS, BTRFS_MAGIC, MAGIC_PLACE, IDENTIFIER, DEVICES, DEVICE = 64 * KIB, b"_BHRf
 LABEL, PAIRS, PAIRS_BYTES = 256 * KIB, 16 * KIB, 112 * KIB
 # What stands in the pairs of each label, and what stands before the name of the pool: how long the name of the pair is, that name, and its type.
 IN_PAIRS, BEFORE_NAME = (b"pool_guid", b"vdev_tree"), b"\0\0\0\4name\0\0\0\x09\0\0\0\1"
-MOST_NAME = 256
+MAX_NAME = 256
 
 
 @dataclasses.dataclass(frozen=True)
@@ -71,7 +71,7 @@ def name_of(pairs: bytes) -> str:
         return ""
     place += len(BEFORE_NAME)
     length = int.from_bytes(pairs[place:place + 4], "big")
-    return pairs[place + 4:place + 4 + min(length, MOST_NAME)].decode("utf-8", "replace")
+    return pairs[place + 4:place + 4 + min(length, MAX_NAME)].decode("utf-8", "replace")
 
 
 def zfs_device(image: Image) -> Device | None:

@@ -12,7 +12,7 @@ from ..units import MIB, SECTOR
 One = TypeVar("One")
 STEP = MIB
 # So many bytes are read from the end back until something is not zeros, and then so many single sectors.
-MOST_BACK, STEPS = 64 * MIB, 256
+MAX_BACK, STEPS = 64 * MIB, 256
 
 
 def data_runs(file: BinaryIO, first: int, last: int) -> Iterator[tuple[int, int]]:
@@ -59,7 +59,7 @@ def last_data(file: BinaryIO, first: int, length: int) -> int | None:
     read = 0
     for begin, end in reversed(list(data_runs(file, first, length))):
         for place in range(end - (end - begin - 1) % STEP - 1, begin - 1, -STEP):
-            if read >= MOST_BACK:
+            if read >= MAX_BACK:
                 return last_of_steps(file, first, place)
             file.seek(place)
             block = file.read(min(STEP, end - place)).rstrip(b"\0")

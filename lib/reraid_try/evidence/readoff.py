@@ -6,9 +6,9 @@ and a row has D data chunks, then it lies at S' = (S - O) mod C of its chunk, in
     U = (X - S') div C - D * row
 
 of that row, but for a shift that belongs to where the file system begins. The true C, O mod C and D have the highest peak: the most votes with one
-(X - S') mod C and with U among D neighbours. Votes in other such windows belong to another file system, or to another extent of one: a family of its
-own. For a named layout the best order of the images is then an assignment: an image goes to a slot with as many votes as that slot has the data chunk
-of. Noise, also where it is most of the votes, is spread over all U."""
+(X - S') mod C and with U among D neighbours. Votes in other such windows belong to another file system, or to another extent of one: a group of
+votes of its own. For a named layout the best order of the images is then an assignment: an image goes to a slot with as many votes as that slot
+has the data chunk of. Noise, also where it is most of the votes, is spread over all U."""
 
 import collections
 import dataclasses
@@ -18,16 +18,16 @@ from collections.abc import Collection, Iterator, Mapping, Sequence
 
 from . import assignment, numbering
 
-# So many votes of a group tell where the peak is; a family has so many at least, and one in so many of the votes of its peak.
-MOST_SAMPLED, LEAST_FAMILY, PART_OF_PEAK = 1500, 12, 20
+# So many votes of a group tell where the peak is; a group of votes has so many at least, and one in so many of the votes of its peak.
+MAX_SAMPLED, MIN_GROUP, PART_OF_PEAK = 1500, 12, 20
 # Peaks with one in so many votes less than the highest are looked at too, at most so many of them.
-NEAR_PEAK, MOST_PEAKS = 10, 6
-# A proposal explains one in so many of the votes of its first family at least: noise in a window lies on wrong slots.
-LEAST_EXPLAINED = 2
+NEAR_PEAK, MAX_PEAKS = 10, 6
+# A proposal explains one in so many of the votes of its first group of votes at least: noise in a window lies on wrong slots.
+MIN_EXPLAINED = 2
 # Parity may stay for so many rows.
 DELAYS = (1, 16)
-# So many orders are worked out anew with the other families; so many proposals are told, and so many less than the best explains, of so many.
-MOST_WORKED, MOST_TOLD, NEAR_BEST = 12, 4, 32
+# So many orders are worked out anew with the other groups of votes; so many proposals are told, and so many less than the best explains, of so many.
+MAX_WORKED, MAX_TOLD, NEAR_BEST = 12, 4, 32
 
 
 @dataclasses.dataclass(frozen=True)
@@ -75,7 +75,7 @@ class Peak:
 
 
 @dataclasses.dataclass(frozen=True)
-class Family:
+class VoteGroup:
     """Votes of one group that agree: what is left of a place by the chunk, the first number of their window, and how many they are."""
 
     group: int
@@ -122,7 +122,7 @@ Turned = Mapping[tuple[int, int, int], int]
 
 def sampled(votes: Sequence[Vote]) -> Sequence[Vote]:
     """Some of the votes, spread evenly."""
-    step = max(1, len(votes) // MOST_SAMPLED)
+    step = max(1, len(votes) // MAX_SAMPLED)
     return votes[::step]
 
 
@@ -131,7 +131,7 @@ def phases(votes: Sequence[Vote], chunk: int) -> dict[tuple[int, int], list[Vote
     found = collections.defaultdict[tuple[int, int], list[Vote]](list)
     for vote in votes:
         found[vote.group, (vote.place - vote.sector) % chunk].append(vote)
-    least = max(LEAST_FAMILY // 2, len(votes) // PART_OF_PEAK)
+    least = max(MIN_GROUP // 2, len(votes) // PART_OF_PEAK)
     return {key: those for key, those in found.items() if len(those) >= least}
 
 
@@ -160,12 +160,12 @@ def peaks(votes: Sequence[Vote], sought: Sought) -> list[Peak]:
             for data, count in windows_of(there, chunk, border, {form.data for form in sought.forms}):
                 found.append(Peak(chunk, border, data, count))
                 top = max(top, count)
-    near = [it for it in found if it.votes * NEAR_PEAK >= top * (NEAR_PEAK - 1) and it.votes >= LEAST_FAMILY // 2]
-    return sorted(near, key=lambda it: (-it.votes, -it.chunk, it.border))[:MOST_PEAKS]
+    near = [it for it in found if it.votes * NEAR_PEAK >= top * (NEAR_PEAK - 1) and it.votes >= MIN_GROUP // 2]
+    return sorted(near, key=lambda it: (-it.votes, -it.chunk, it.border))[:MAX_PEAKS]
 
 
 def windows_of(there: Mapping[tuple[int, int], Sequence[Vote]], chunk: int, border: int, widths: Collection[int]) -> Iterator[tuple[int, int]]:
-    """For each number of data chunks how many votes are in the best window of one family."""
+    """For each number of data chunks how many votes are in the best window of one group of votes."""
     pairs = dict[tuple[int, int], Mapping[tuple[int, int], int]]()
     for key, those in there.items():
         pairs[key] = collections.Counter(((it.sector - border) // chunk, (it.place - (it.sector - border) % chunk) // chunk) for it in those)
@@ -191,19 +191,19 @@ def cells_of(votes: Sequence[Vote], peak: Peak) -> Mapping[Cell, int]:
     return found
 
 
-def families(cells: Mapping[Cell, int], peak: Peak) -> list[Family]:
-    """The families at a peak, the largest first: of each group and phase all windows that do not overlap, with enough votes."""
+def vote_groups(cells: Mapping[Cell, int], peak: Peak) -> list[VoteGroup]:
+    """The groups of votes at a peak, the largest first: of each group and phase all windows that do not overlap, with enough votes."""
     numbers = collections.defaultdict[tuple[int, int], collections.Counter[int]](collections.Counter)
     for (group, left, _, _, number), count in cells.items():
         numbers[group, left][number] += count
-    found, least = list[Family](), max(LEAST_FAMILY, peak.votes // PART_OF_PEAK)
+    found, least = list[VoteGroup](), max(MIN_GROUP, peak.votes // PART_OF_PEAK)
     for (group, left), there in numbers.items():
         rest = dict(there)
         while rest:
             count, first = window(rest, peak.data)
             if count < least:
                 break
-            found.append(Family(group, left, first, count))
+            found.append(VoteGroup(group, left, first, count))
             rest = {number: it for number, it in rest.items() if not first <= number < first + peak.data}
     return sorted(found, key=lambda it: (-it.votes, it.group, it.first))
 
@@ -235,12 +235,12 @@ class Turn:
 
 @dataclasses.dataclass(frozen=True)
 class Order:
-    """A turn with the offset, the images by slot and the shift of each family, and how many votes of it that explains."""
+    """A turn with the offset, the images by slot and the shift of each group of votes, and how many votes of it that explains."""
 
     turn: Turn
     offset: int
     slots: tuple[int | None, ...]
-    shifts: tuple[tuple[Family, int, int], ...]
+    shifts: tuple[tuple[VoteGroup, int, int], ...]
     known: bool
 
     @property
@@ -256,39 +256,39 @@ class Reader:
         self.peak, self.sought = peak, sought
         self.images = sorted({vote.image for vote in votes})
         self.cells = cells_of(votes, peak)
-        self.families = families(self.cells, peak)
-        self.turned = dict[tuple[Family, int, int, int], Turned]()
+        self.vote_groups = vote_groups(self.cells, peak)
+        self.turned = dict[tuple[VoteGroup, int, int, int], Turned]()
 
-    def origin(self, family: Family, turn: Turn, shift: int) -> int:
-        """Where the file system of a family begins if its numbers are counted from a shift on."""
-        return -(shift + self.peak.data * turn.behind) * self.peak.chunk - family.phase
+    def origin(self, vote_group: VoteGroup, turn: Turn, shift: int) -> int:
+        """Where the file system of a group of votes begins if its numbers are counted from a shift on."""
+        return -(shift + self.peak.data * turn.behind) * self.peak.chunk - vote_group.phase
 
-    def votes_of(self, family: Family, turn: Turn) -> Turned:
-        """The votes of a family by image, turn and number, with numbers counted from the border on; kept for all patterns of one period."""
-        key = family, turn.period, turn.delay, turn.behind % turn.period
+    def votes_of(self, vote_group: VoteGroup, turn: Turn) -> Turned:
+        """The votes of a group of votes by image, turn and number, with numbers counted from the border on; kept for all patterns of one period."""
+        key = vote_group, turn.period, turn.delay, turn.behind % turn.period
         if key not in self.turned:
             found, near = collections.Counter[tuple[int, int, int]](), self.peak.data
             for (group, left, image, row, number), count in self.cells.items():
-                if (group, left) == (family.group, family.phase) and family.first - near < number < family.first + 2 * near:
+                if (group, left) == (vote_group.group, vote_group.phase) and vote_group.first - near < number < vote_group.first + 2 * near:
                     found[image, turn.turn_of(row), number] += count
             self.turned[key] = found
         return self.turned[key]
 
-    def shifts(self, family: Family, turn: Turn) -> list[tuple[int, int]]:
-        """The shifts at which a window has votes of a family, and how many, the most first; none with which its file system would begin before the
-        volume."""
+    def shifts(self, vote_group: VoteGroup, turn: Turn) -> list[tuple[int, int]]:
+        """The shifts at which a window has votes of a group of votes, and how many, the most first; none with which its file system would begin
+        before the volume."""
         numbers = collections.Counter[int]()
-        for (_, _, number), count in self.votes_of(family, turn).items():
+        for (_, _, number), count in self.votes_of(vote_group, turn).items():
             numbers[number] += count
         data = self.peak.data
-        found = ((sum(numbers[shift + k] for k in range(data)), shift) for shift in range(family.first - data + 1, family.first + data))
-        return sorted(((count, shift) for count, shift in found if self.origin(family, turn, shift) >= 0), key=lambda it: (-it[0], it[1]))
+        found = ((sum(numbers[shift + k] for k in range(data)), shift) for shift in range(vote_group.first - data + 1, vote_group.first + data))
+        return sorted(((count, shift) for count, shift in found if self.origin(vote_group, turn, shift) >= 0), key=lambda it: (-it[0], it[1]))
 
-    def weights(self, family: Family, turn: Turn, shift: int) -> list[list[int]]:
-        """How many votes of a family each image has for each slot."""
+    def weights(self, vote_group: VoteGroup, turn: Turn, shift: int) -> list[list[int]]:
+        """How many votes of a group of votes each image has for each slot."""
         found = [[0] * (turn.form.members + turn.form.foreign) for _ in self.images]
         places = {image: place for place, image in enumerate(self.images)}
-        for (image, row, number), count in self.votes_of(family, turn).items():
+        for (image, row, number), count in self.votes_of(vote_group, turn).items():
             if 0 <= number - shift < self.peak.data:
                 found[places[image]][turn.slots[row][number - shift]] += count
         return found
@@ -307,17 +307,17 @@ class Reader:
                         yield Turn(form, pattern, delay, (offset - border) // chunk), offset
 
     def orders(self) -> list[Order]:
-        """The best orders by the largest family alone, those that explain the most first, and of as many those whose origin is known."""
+        """The best orders by the largest group of votes alone, those that explain the most first, and of as many those whose origin is known."""
         found, top = list[Order](), 0
-        family = self.families[0]
+        vote_group = self.vote_groups[0]
         for turn, offset in self.turns():
-            for count, shift in self.shifts(family, turn):
-                if count * NEAR_BEST < top * (NEAR_BEST - 1) or count < LEAST_FAMILY:
+            for count, shift in self.shifts(vote_group, turn):
+                if count * NEAR_BEST < top * (NEAR_BEST - 1) or count < MIN_GROUP:
                     break
-                total, columns = assignment.best(self.weights(family, turn, shift))
-                if total >= LEAST_FAMILY:
-                    known = self.origin(family, turn, shift) in self.sought.origins
-                    found.append(Order(turn, offset, self.slots_of(columns, turn.form), ((family, shift, total),), known))
+                total, columns = assignment.best(self.weights(vote_group, turn, shift))
+                if total >= MIN_GROUP:
+                    known = self.origin(vote_group, turn, shift) in self.sought.origins
+                    found.append(Order(turn, offset, self.slots_of(columns, turn.form), ((vote_group, shift, total),), known))
                     top = max(top, total)
         return sorted(found, key=lambda it: (-it.explained, not it.known, it.turn.delay, it.turn.form.level, it.offset))
 
@@ -330,20 +330,20 @@ class Reader:
         return tuple(slots)
 
     def with_others(self, order: Order) -> Order:
-        """An order with the other families: of each the shift at which it fits best there, and then the best order of all together."""
+        """An order with the other groups of votes: of each the shift at which it fits best there, and then the best order of all together."""
         total = self.weights(*order.shifts[0][:1], order.turn, order.shifts[0][1])
         chosen = [order.shifts[0][:2]]
         columns = {image: slot for slot, image in enumerate(order.slots) if image is not None}
-        for family in self.families[1:]:
-            best = max(((self.fits(self.weights(family, order.turn, shift), columns), shift) for _, shift in self.shifts(family, order.turn)),
+        for vote_group in self.vote_groups[1:]:
+            best = max(((self.fits(self.weights(vote_group, order.turn, shift), columns), shift) for _, shift in self.shifts(vote_group, order.turn)),
                        default=(0, 0))
-            if best[0] * LEAST_EXPLAINED >= family.votes:
-                chosen.append((family, best[1]))
-                more = self.weights(family, order.turn, best[1])
+            if best[0] * MIN_EXPLAINED >= vote_group.votes:
+                chosen.append((vote_group, best[1]))
+                more = self.weights(vote_group, order.turn, best[1])
                 total = [[one + other for one, other in zip(row, added)] for row, added in zip(total, more)]
         slots = self.slots_of(assignment.best(total)[1], order.turn.form)
         columns = {image: slot for slot, image in enumerate(slots) if image is not None}
-        counted = tuple((family, shift, self.fits(self.weights(family, order.turn, shift), columns)) for family, shift in chosen)
+        counted = tuple((vote_group, shift, self.fits(self.weights(vote_group, order.turn, shift), columns)) for vote_group, shift in chosen)
         return dataclasses.replace(order, slots=slots, shifts=counted)
 
     def fits(self, weights: Sequence[Sequence[int]], columns: Mapping[int, int]) -> int:
@@ -352,20 +352,20 @@ class Reader:
 
     def proposals(self, totals: Mapping[int, int]) -> list[Proposal]:
         """What is proposed by this peak: `totals` has how many votes each group has."""
-        if not self.families:
+        if not self.vote_groups:
             return []
-        orders = [self.with_others(it) for it in self.orders()[:MOST_WORKED]]
+        orders = [self.with_others(it) for it in self.orders()[:MAX_WORKED]]
         orders.sort(key=lambda it: (-it.explained, not it.known, it.turn.delay, it.turn.form.level, it.offset))
-        kept = [it for it in orders if it.shifts[0][2] * LEAST_EXPLAINED >= self.families[0].votes]
+        kept = [it for it in orders if it.shifts[0][2] * MIN_EXPLAINED >= self.vote_groups[0].votes]
         following = max((it.shifts[0][2] for it in orders if kept and it.shifts[0][2] < kept[0].shifts[0][2]), default=0)
         return [self.proposal(it, totals, following) for it in kept]
 
     def proposal(self, order: Order, totals: Mapping[int, int], following: int) -> Proposal:
-        """An order as a proposal: of several families of a group that with the most votes tells its origin."""
+        """An order as a proposal: of several groups of votes of a group that with the most votes tells its origin."""
         fits = dict[int, Fit]()
-        for family, shift, count in order.shifts:
-            if family.group not in fits or count > fits[family.group].fits:
-                fits[family.group] = Fit(family.group, count, self.origin(family, order.turn, shift), totals[family.group])
+        for vote_group, shift, count in order.shifts:
+            if vote_group.group not in fits or count > fits[vote_group.group].fits:
+                fits[vote_group.group] = Fit(vote_group.group, count, self.origin(vote_group, order.turn, shift), totals[vote_group.group])
         turn = order.turn
         return Proposal(turn.form, turn.pattern, turn.delay, self.peak.chunk, order.offset, order.slots, tuple(fits.values()), following)
 

@@ -1,4 +1,4 @@
-"""The output of `reraid relations`: which images depend on one another in each row of sectors. What these say of arrays is told in `families`."""
+"""The output of `reraid relations`: which images depend on one another in each row of sectors. What these say of arrays is told in `image groups`."""
 
 import dataclasses
 import json

@@ -13,7 +13,7 @@ from . import extents, hints
 from .relations import Relations, Rows
 
 # Images in which a step between rows would be longer than those of so many bytes are sampled so.
-LEAST_LARGE = 4 * GIB
+MIN_LARGE = 4 * GIB
 # The part of the rows that lie where images are known to hold data; the others are spread over all of the images.
 PART_HELD = 2
 # Between two rows that are looked at steps are halved so often around what is not zeros.
@@ -22,7 +22,7 @@ HALVINGS = 6
 WITHIN = 13
 ZERO = bytes(SECTOR)
 # A sector that can be packed to fewer bytes is a pattern.
-MOST_PATTERN = 256
+MAX_PATTERN = 256
 
 
 @dataclasses.dataclass(frozen=True)
@@ -45,7 +45,7 @@ class Sample:
 
 def is_large(first: int, end: int) -> bool:
     """Return whether so many rows are those of large images."""
-    return (end - first) * SECTOR > LEAST_LARGE
+    return (end - first) * SECTOR > MIN_LARGE
 
 
 class Reader:
@@ -98,7 +98,7 @@ def reading_at(file: int, place: int) -> bytes:
 def is_pattern(sectors: Sequence[bytes]) -> bool:
     """Return whether a row is not zeros, and all that stands in it has much less in it than it is long."""
     held = [sector for sector in sectors if sector != ZERO]
-    return bool(held) and all(len(zlib.compress(sector, 1)) < MOST_PATTERN for sector in held)
+    return bool(held) and all(len(zlib.compress(sector, 1)) < MAX_PATTERN for sector in held)
 
 
 def evenly(first: int, end: int, most: int) -> list[int]:

@@ -11,7 +11,7 @@ from .tables import Partition
 
 # So many blocks of so many bytes, spread over a partition, tell whether it is the same on all images; so many of a hundred of them have to be.
 SAMPLES, BLOCK, MOSTLY = 256, 4096, 90
-LEAST_IMAGES = 2
+MIN_IMAGES = 2
 
 
 @dataclasses.dataclass(frozen=True)
@@ -41,7 +41,7 @@ class Place:
         return not self.copied and not self.empty and not self.efi
 
     def line(self) -> str:
-        """What is said of it."""
+        """Return it as one line of text."""
         if self.empty:
             what = "zeros in all sampled sectors"
         elif self.copied:
@@ -56,14 +56,14 @@ def places(disks: Sequence[Image]) -> list[Place]:
     is the same as another one counts once."""
     found: dict[int, list[tuple[int, Partition]]] = collections.defaultdict(list)
     tabled = [disk for disk in disks if disk.table.own and disk.table.partitions and disk.like is None]
-    if len(tabled) < LEAST_IMAGES or 2 * len(tabled) <= sum(disk.like is None for disk in disks):
+    if len(tabled) < MIN_IMAGES or 2 * len(tabled) <= sum(disk.like is None for disk in disks):
         return []
     for disk in tabled:
         for partition in disk.table.partitions:
             found[partition.first].append((disk.number, partition))
     common = [Place(first, min(it.count for _, it in on), tuple(number for number, _ in on), efi=all(it.is_efi for _, it in on))
               for first, on in found.items()]
-    common = [place for place in common if len(place.images) >= LEAST_IMAGES]
+    common = [place for place in common if len(place.images) >= MIN_IMAGES]
     return sorted(common, key=lambda it: (-it.count * len(it.images), it.first))
 
 

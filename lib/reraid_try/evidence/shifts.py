@@ -9,22 +9,22 @@ import itertools
 import zlib
 from collections.abc import Iterable, Iterator, Mapping, Sequence
 
-from ..calls.sets import FAR, MOST_COPIES, OFFSET
-from .families import connected
+from ..calls.sets import FAR, MAX_COPIES, OFFSET
+from .image_groups import connected
 
 SECTOR = 512
 STEP = 1 << 20
 # So many sectors of an image are taken at most, about, and so many bytes of it are read, and of all images, which takes some seconds.
-MOST_TAKEN, MOST_READ, MOST_OF_ALL = 1 << 16, 1 << 30, 1 << 31
+MAX_TAKEN, MAX_READ, MAX_OF_ALL = 1 << 16, 1 << 30, 1 << 31
 # A distance tells where so many sectors have it, and one in so many of all that two images have in common.
 # A weak one is so many times as frequent as the next.
-LEAST_SHOWN, FEW, CLEARLY = 12, 5, 2
-MOST_CHUNK = 32768
+MIN_SHOWN, FEW, CLEARLY = 12, 5, 2
+MAX_CHUNK = 32768
 # Beside what tells, of two images so many distances are kept that so many sectors have, for where parity is to say which is right. Partitions and
 # logical volumes begin multiples of so many sectors apart.
-MOST_WEAKER, LEAST_WEAKER, WHOLE = 3, 3, 2048
+MAX_WEAKER, MIN_WEAKER, WHOLE = 3, 3, 2048
 # Of so many distances one may be of files that are stored twice, and not of where the data begin.
-MOST_OTHERS = 4
+MAX_OTHERS = 4
 # One that so many times fewer sectors show than the strongest one is of such files, where it is asked how far apart copies lie.
 WEAK = 16
 # Data begin at a multiple of so many sectors, and a chunk of md has no fewer: equal files lie apart by any number.
@@ -90,14 +90,14 @@ def shift(one: Mapping[int, int], other: Mapping[int, int], weak: bool = False) 
         return None
     (distance, shown), *more = distances
     told = FEW * shown >= sum(count for _, count in distances) or weak and shown >= CLEARLY * more[0][1]
-    return (distance, shown) if shown >= LEAST_SHOWN and told else None
+    return (distance, shown) if shown >= MIN_SHOWN and told else None
 
 
 def distances(names: Mapping[int, str], first: int, last: int) -> Distances:
     """The distances between each two of some images, by their numbers, in what is read of them from one sector to before another. An image that
     cannot be read raises `OSError`."""
-    last = min(last, first + min(MOST_READ, MOST_OF_ALL // max(1, len(names))) // SECTOR)
-    every = max(1, (last - first) // MOST_TAKEN)
+    last = min(last, first + min(MAX_READ, MAX_OF_ALL // max(1, len(names))) // SECTOR)
+    every = max(1, (last - first) // MAX_TAKEN)
     places = {image: taken(name, first, last, every) for image, name in names.items()}
     pairs = [(one, other) for one, other in itertools.permutations(names, 2) if one < other]
     found: list[Shift] = []
@@ -107,7 +107,7 @@ def distances(names: Mapping[int, str], first: int, last: int) -> Distances:
         found += [Shift(one, other, *told) for one, other in pairs if not any({one, other} <= part for part in joined)
                   and (told := shift(places[one], places[other], weak))]
     weaker = [Shift(one, other, distance, shown) for one, other in pairs
-              for distance, shown in frequent(places[one], places[other])[:MOST_WEAKER] if shown >= LEAST_WEAKER]
+              for distance, shown in frequent(places[one], places[other])[:MAX_WEAKER] if shown >= MIN_WEAKER]
     known = {(it.one, it.other, it.distance) for it in found}
     weaker = [it for it in weaker if (it.one, it.other, it.distance) not in known]
     return Distances(tuple(found), tuple(sorted(weaker, key=lambda it: (it.distance % WHOLE > 0, -it.shown))))
@@ -154,7 +154,7 @@ def agree(found: Sequence[Shift], images: int) -> bool:
     reached in one way alone any distances agree, those of copies on the next disk too."""
     places = strongest(found)
     agreed = sum(places[it.other] - places[it.one] == it.distance for it in found if it.one in places and it.other in places)
-    return len(places) == images <= agreed and MOST_OTHERS * (len(found) - agreed) <= len(found)
+    return len(places) == images <= agreed and MAX_OTHERS * (len(found) - agreed) <= len(found)
 
 
 def apart(found: Sequence[Shift], images: int) -> int | None:
@@ -164,7 +164,7 @@ def apart(found: Sequence[Shift], images: int) -> int | None:
     most = max((it.shown for it in found), default=0)
     told = [it for it in found if it.distance and WEAK * it.shown >= most]
     for size in sorted({abs(it.distance) for it in told}):
-        those = [it for it in told if it.distance % size == 0 and abs(it.distance) // size < MOST_COPIES]
+        those = [it for it in told if it.distance % size == 0 and abs(it.distance) // size < MAX_COPIES]
         if 2 * len(those) > len(told) and 2 * len({image for it in those for image in (it.one, it.other)}) > images:
             return size
     return None
@@ -172,4 +172,4 @@ def apart(found: Sequence[Shift], images: int) -> int | None:
 
 def layout(distance: int) -> str:
     """What RAID 10 has its copies so far apart: `offset` where that is a chunk, and else `far`."""
-    return OFFSET if distance <= MOST_CHUNK and distance & (distance - 1) == 0 else FAR
+    return OFFSET if distance <= MAX_CHUNK and distance & (distance - 1) == 0 else FAR

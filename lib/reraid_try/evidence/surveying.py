@@ -1,4 +1,4 @@
-"""Surveys of large images: one for all kinds of landmarks and all hunts over some images, and of sparse images of what they hold."""
+"""Surveys of large images: one for all kinds of landmarks and all scopes over some images, and of sparse images of what they hold."""
 
 import collections
 import dataclasses
@@ -17,7 +17,7 @@ from .filling import Flags
 # Of sparse images that hold one in so many of their bytes at most, only what they hold is surveyed.
 PART_HELD = 4
 # A survey has at most so many landmarks, and groups, of each kind: where it has fewer, none were left out.
-MOST_MARKS, MOST_GROUPS = 4096, 32
+MAX_MARKS, MAX_GROUPS = 4096, 32
 
 
 @dataclasses.dataclass
@@ -44,7 +44,7 @@ def of_kinds(plan: Plan, wanted: Collection[str]) -> Plan:
 def is_full(plan: Plan) -> bool:
     """Return whether more landmarks may be there than a plan has."""
     marks, groups = collections.Counter(it.kind for it in plan.marks()), collections.Counter(it.kind for it in plan.groups)
-    return any(count >= MOST_MARKS for count in marks.values()) or any(count >= MOST_GROUPS for count in groups.values())
+    return any(count >= MAX_MARKS for count in marks.values()) or any(count >= MAX_GROUPS for count in groups.values())
 
 
 def of_images(plan: Plan, numbers: Sequence[int]) -> Plan:
@@ -86,7 +86,7 @@ class LargeSurveys(Surveys):
         """Return the plan of a survey of what the images hold, where that is little, and else of the images."""
         runs = padded(extents.held_by_any(self.names, asked.first, asked.end), asked.first, asked.end)
         held = SECTOR * sum(extents.total(extents.held(name, asked.first, asked.end)) for name in self.names)
-        if PART_HELD * extents.total(runs) > asked.end - asked.first or held > compact.MOST_BYTES:
+        if PART_HELD * extents.total(runs) > asked.end - asked.first or held > compact.MAX_BYTES:
             return self.asked(self.commands, self.names, asked, asked.first, asked.end)
         parts = Parts(runs or ((asked.first, asked.first + 1),))
         with compact.kept(self.names, parts) as names:

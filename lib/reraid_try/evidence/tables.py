@@ -14,13 +14,13 @@ Read = Callable[[int, int], bytes]
 FIRST_ENTRY, ENTRY, SIGNATURE = 446, 16, b"\x55\xaa"
 PROTECTIVE, ACTIVE = 0xEE, 0x80
 # The types of extended partitions, which hold logical ones in a chain of tables, of which so many are read.
-EXTENDED, MOST_LOGICAL = ("05", "0f", "85"), 60
+EXTENDED, MAX_LOGICAL = ("05", "0f", "85"), 60
 # The type of an EFI system partition, in an MBR and in a GPT: C12A7328-F81F-11D2-BA4B-00A0C93EC93B.
 MBR_EFI, GPT_EFI = "ef", uuid.UUID("c12a7328-f81f-11d2-ba4b-00a0c93ec93b").bytes_le
 # More sectors than an MBR can tell of.
-MOST_MBR = 1 << 32
+MAX_MBR = 1 << 32
 # A GPT: the sizes of its header, and the entries that are read.
-LEAST_HEADER, LEAST_ENTRY, MOST_ENTRIES = 92, 128, 128
+MIN_HEADER, MIN_ENTRY, MAX_ENTRIES = 92, 128, 128
 
 
 @dataclasses.dataclass(frozen=True)
@@ -47,7 +47,7 @@ class Table:
     partitions: tuple[Partition, ...] = ()
 
 
-def read_mbr(sector: bytes, room: int = MOST_MBR) -> tuple[Partition, ...]:
+def read_mbr(sector: bytes, room: int = MAX_MBR) -> tuple[Partition, ...]:
     """The partitions of an MBR, none where the sector is none. `room` is how many sectors there may be."""
     if len(sector) < SECTOR or sector[510:512] != SIGNATURE or sector[3:7] == b"NTFS":
         return ()
@@ -66,7 +66,7 @@ def logical(read: Read, extended: Partition) -> Iterator[Partition]:
     """The logical partitions of an extended one. Each table of its chain has two entries that count: a partition, counted from the table, and the
     next table, counted from the first one; a chain that turns back ends there."""
     at, end = extended.first, extended.first + extended.count
-    for _ in range(MOST_LOGICAL):
+    for _ in range(MAX_LOGICAL):
         sector = read(at * SECTOR, SECTOR)
         if len(sector) < SECTOR or sector[510:512] != SIGNATURE:
             return
@@ -90,13 +90,13 @@ def read_gpt(read: Read, block: int) -> tuple[int, tuple[Partition, ...]] | None
     if len(head) < SECTOR or head[:8] != b"EFI PART":
         return None
     size: int = struct.unpack_from("<I", head, 12)[0]
-    if not LEAST_HEADER <= size <= SECTOR or zlib.crc32(head[:16] + bytes(4) + head[20:size]) != struct.unpack_from("<I", head, 16)[0]:
+    if not MIN_HEADER <= size <= SECTOR or zlib.crc32(head[:16] + bytes(4) + head[20:size]) != struct.unpack_from("<I", head, 16)[0]:
         return None
     other: int = struct.unpack_from("<Q", head, 32)[0]
     place, count, width = struct.unpack_from("<QII", head, 72)
     found = []
-    table = read(place * block, min(count, MOST_ENTRIES) * width) if LEAST_ENTRY <= width <= block and place * block < ALL else b""
-    for start in range(0, len(table) - LEAST_ENTRY + 1, max(width, LEAST_ENTRY)):
+    table = read(place * block, min(count, MAX_ENTRIES) * width) if MIN_ENTRY <= width <= block and place * block < ALL else b""
+    for start in range(0, len(table) - MIN_ENTRY + 1, max(width, MIN_ENTRY)):
         first, last = struct.unpack_from("<QQ", table, start + 32)
         if any(table[start:start + 16]) and first <= last:
             kind = "efi" if table[start:start + 16] == GPT_EFI else "gpt"

@@ -13,13 +13,13 @@ from . import reading
 from .maps import READ, Map
 
 # A text has so many bytes at most. By so many first bytes of a sector it is seen whether these come again; once it stands with so many at least.
-SHORT, BEGIN, LEAST_BYTES = 64, 8, 4
+SHORT, BEGIN, MIN_BYTES = 64, 8, 4
 ZEROS, NO_BEGIN = bytes(SECTOR - SHORT), bytes(BEGIN)
 # Texts are looked for in each of so many sectors, in the first bytes of an image, and in so many blocks of so many bytes spread over the rest of what
 # is read; in all of that those that are to be told of.
 EVERY, FIRST_BYTES, SPREAD, BLOCK = 8, 256 * MIB, 1024, 128 * SECTOR
 # A text counts that fills so many sectors, and so many texts of an image do.
-LEAST, MOST_TEXTS = 2, 8
+MIN, MAX_TEXTS = 2, 8
 # From one sector to the next a number may count sectors or bytes, or what is larger than a sector; of so many sectors one may do otherwise.
 STEPS, FEW_OTHER = (0, 1, SECTOR), 10
 NUMBER = re.compile(rb"[0-9A-Fa-f]*[0-9][0-9A-Fa-f]*")
@@ -76,7 +76,7 @@ def text_of(sector: bytes) -> Text | None:
     if period > 1 and sector == (sector[:period] * (SECTOR // period + 1))[:SECTOR]:
         return Text(sector[:period])
     once = sector.rstrip(b"\0")
-    return Text(once, False) if period < 0 and LEAST_BYTES <= len(once) <= SHORT and Text(once).has_words else None
+    return Text(once, False) if period < 0 and MIN_BYTES <= len(once) <= SHORT and Text(once).has_words else None
 
 
 def texts(block: bytes) -> Iterator[Text]:
@@ -162,7 +162,7 @@ class Texts:
     def sorted(self, gaps: Sequence[range]) -> list[Held]:
         """Those that fill several sectors in none of these gaps, that with the most first."""
         kept = [dataclasses.replace(it, runs=list(outside(it.runs, gaps))) for it in self.found.values() if it.is_one]
-        return sorted((it for it in kept if it.sectors >= LEAST), key=lambda it: -it.sectors)[:MOST_TEXTS]
+        return sorted((it for it in kept if it.sectors >= MIN), key=lambda it: -it.sectors)[:MAX_TEXTS]
 
 
 def seen(file: BinaryIO, length: int) -> Texts:

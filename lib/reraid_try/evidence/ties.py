@@ -9,15 +9,15 @@ from ..calls.commands import Runner
 from ..calls.memory import direct
 from ..calls.sets import LEVELS
 from ..units import counted, sectors_said
-from . import compact, dependence, families, patterns, relations, sampling
-from .families import COPIES, LEVEL_5, LEVEL_6, Family, Old
+from . import compact, dependence, image_groups, patterns, relations, sampling
+from .image_groups import COPIES, LEVEL_5, LEVEL_6, ImageGroup, Old
 from .images import Image
 from .relations import Relations
 
 # So many rows are looked at, spread over the images; and as many close to each other where chunks are told, each so many sectors behind the one
 # before.
-MOST_ROWS, FINE_STEP = 4096, 8
-LEAST_IMAGES, MOST_IMAGES = 2, 64
+MAX_ROWS, FINE_STEP = 4096, 8
+MIN_IMAGES, MAX_IMAGES = 2, 64
 # What a RAID 0 over arrays of a level is called.
 NESTED = {LEVEL_5: "RAID 50", LEVEL_6: "RAID 60"}
 # The status of words that are none of the program's.
@@ -26,17 +26,17 @@ REFUSED = 1
 
 @dataclasses.dataclass(frozen=True)
 class Known:
-    """What is known of images that belong together: their family, the sectors of a chunk, None where ties do not tell it, and the first row of all
-    that ties them, before which their data begin."""
+    """What is known of images that belong together: their group, the sectors of a chunk, None where ties do not tell it, and the first row of
+    all that ties them, before which their data begin."""
 
-    family: Family
+    group: ImageGroup
     chunk: int | None = None
     begin: int | None = None
 
 
 @dataclasses.dataclass(frozen=True)
 class Told:
-    """What relations tell of some images: the families, and the images that are in none of them. `asked` says that relations were to be had."""
+    """What relations tell of some images: the groups, and the images that are in none of them. `asked` says that relations were to be had."""
 
     known: tuple[Known, ...] = ()
     alone: tuple[int, ...] = ()
@@ -45,7 +45,7 @@ class Told:
 
 def step_of(first: int, end: int) -> int:
     """Return how many sectors apart the rows lie that are looked at from a first to before a last one."""
-    return max(1, -(-(end - first) // MOST_ROWS))
+    return max(1, -(-(end - first) // MAX_ROWS))
 
 
 class Ties:
@@ -86,7 +86,7 @@ class Ties:
             return self.relations(numbers, first, end, max(1, -(-(end - first) // most)), offsets)
         key = tuple(numbers), first, end, most, tuple(offsets)
         if key not in self.spreads:
-            self.spreads[key] = self.sampled(numbers, first, end, most, offsets, most == MOST_ROWS)
+            self.spreads[key] = self.sampled(numbers, first, end, most, offsets, most == MAX_ROWS)
         return self.spreads[key]
 
     def sampled(self, numbers: Sequence[int], first: int, end: int, most: int, offsets: Sequence[int], telling: bool) -> Relations | None:
@@ -113,13 +113,13 @@ class Ties:
 
     def tell(self, numbers: Sequence[int], first: int, end: int, offsets: Sequence[int]) -> Told:
         """What the rows of some images tell, which are read for it."""
-        found = self.spread(numbers, first, end, MOST_ROWS, offsets) if LEAST_IMAGES <= len(numbers) <= MOST_IMAGES and first < end else None
+        found = self.spread(numbers, first, end, MAX_ROWS, offsets) if MIN_IMAGES <= len(numbers) <= MAX_IMAGES and first < end else None
         if found is None:
             return Told()
         found = self.without_patterns(found, numbers, offsets)
         moved = dict(zip(numbers, offsets))
-        known = tuple(self.closer(it, first, end, found, moved) for it in families.families(found, numbers))
-        within = {image for it in known for image in it.family.images}
+        known = tuple(self.closer(it, first, end, found, moved) for it in image_groups.image_groups(found, numbers))
+        within = {image for it in known for image in it.group.images}
         return Told(known, tuple(number for number in numbers if number not in within), True)
 
     def without_patterns(self, found: Relations, numbers: Sequence[int], offsets: Sequence[int]) -> Relations:
@@ -129,28 +129,28 @@ class Ties:
             kept = patterns.without(found, sectors.held, len(numbers))
         return kept
 
-    def closer(self, family: Family, first: int, end: int, found: Relations, moved: Mapping[int, int]) -> Known:
-        """What rows that lie closer to each other tell of a family of some rows: where it begins, and how long its chunks are."""
-        images = family.current
-        before, offsets = max(first, found.before(family.first)), [moved[image] for image in images] if moved else []
-        near = self.relations(images, before, min(end, family.first + 1), max(1, (family.first - before) // MOST_ROWS), offsets)
+    def closer(self, group: ImageGroup, first: int, end: int, found: Relations, moved: Mapping[int, int]) -> Known:
+        """What rows that lie closer to each other tell of a group of some rows: where it begins, and how long its chunks are."""
+        images = group.current
+        before, offsets = max(first, found.before(group.first)), [moved[image] for image in images] if moved else []
+        near = self.relations(images, before, min(end, group.first + 1), max(1, (group.first - before) // MAX_ROWS), offsets)
         begin = next((rows.first for rows in near.tied_rows()), None) if near else None
-        if reshape := family.reshape:
+        if reshape := group.reshape:
             behind = min(end, reshape.sector + 1)
-            near = self.relations(images, reshape.last, behind, max(1, (behind - reshape.last) // MOST_ROWS), offsets)
-            family = dataclasses.replace(family, reshape=reshape.closer(near) if near else reshape)
-        family = dataclasses.replace(family, old=tuple(self.since(it, family, max(first, found.before(it.first)), moved) for it in family.old))
-        if family.level != LEVEL_6 or not family.parity:
-            return Known(family, None, begin)
-        fine = self.relations(images, family.first // FINE_STEP * FINE_STEP, min(end, family.first + MOST_ROWS * FINE_STEP), FINE_STEP, offsets)
-        chunk = families.chunk_of(fine, images) if fine else None
-        return Known(family, chunk[0] if chunk else None, begin)
+            near = self.relations(images, reshape.last, behind, max(1, (behind - reshape.last) // MAX_ROWS), offsets)
+            group = dataclasses.replace(group, reshape=reshape.closer(near) if near else reshape)
+        group = dataclasses.replace(group, old=tuple(self.since(it, group, max(first, found.before(it.first)), moved) for it in group.old))
+        if group.level != LEVEL_6 or not group.parity:
+            return Known(group, None, begin)
+        fine = self.relations(images, group.first // FINE_STEP * FINE_STEP, min(end, group.first + MAX_ROWS * FINE_STEP), FINE_STEP, offsets)
+        chunk = image_groups.chunk_of(fine, images) if fine else None
+        return Known(group, chunk[0] if chunk else None, begin)
 
-    def since(self, old: Old, family: Family, before: int, moved: Mapping[int, int]) -> Old:
-        """From which row on an image of a family is old, by the rows from another one on, which lie closer to each other."""
-        offsets = [moved[image] for image in family.images] if moved else []
-        near = self.relations(family.images, before, old.first + 1, max(1, (old.first - before) // MOST_ROWS), offsets)
-        return old.closer(near, frozenset(family.images)) if near else old
+    def since(self, old: Old, group: ImageGroup, before: int, moved: Mapping[int, int]) -> Old:
+        """From which row on an image of a group is old, by the rows from another one on, which lie closer to each other."""
+        offsets = [moved[image] for image in group.images] if moved else []
+        near = self.relations(group.images, before, old.first + 1, max(1, (old.first - before) // MAX_ROWS), offsets)
+        return old.closer(near, frozenset(group.images)) if near else old
 
 
 def named(numbers: Sequence[int]) -> str:
@@ -158,46 +158,46 @@ def named(numbers: Sequence[int]) -> str:
     return f"image{'' if len(numbers) == 1 else 's'} {', '.join(map(str, numbers))}"
 
 
-def lost_line(family: Family, place: str = "") -> str:
-    """What is said of the parity of a family, with its chunk and place, if these are known."""
-    lost = family.lost or 0
-    if family.may_be_copies:
-        return (f"hold the same data in {counted(family.rows, 'row')} of those sampled, as RAID 5 does if its third disk is missing and held zeros "
+def lost_line(group: ImageGroup, place: str = "") -> str:
+    """What is said of the parity of a group, with its chunk and place, if these are known."""
+    lost = group.lost or 0
+    if group.may_be_copies:
+        return (f"hold the same data in {counted(group.rows, 'row')} of those sampled, as RAID 5 does if its third disk is missing and held zeros "
                 "there")
-    if family.is_either:
-        images = len(family.images)
+    if group.is_either:
+        images = len(group.images)
         return (f"RAID 6 with 2 of {images + 2} disks missing, or RAID 5 with 1 of {images + 1}{place}. Parity matches in only "
-                f"{counted(family.rows, 'row')} of those sampled, perhaps because the missing disks hold zeros in these")
-    spare = f"{family.members} disks, {lost or 'none'} missing"
-    if family.loose and not lost:
+                f"{counted(group.rows, 'row')} of those sampled, perhaps because the missing disks hold zeros in these")
+    spare = f"{group.members} disks, {lost or 'none'} missing"
+    if group.loose and not lost:
         spare += ", but not in all rows: one disk may be old or half rebuilt"
-    if family.old:
-        spare += f", counting {'one that is' if len(family.old) == 1 else 'those that are'} old, damaged or from another array"
-    return f"parity matches RAID {family.level}, {spare}{place}"
+    if group.old:
+        spare += f", counting {'one that is' if len(group.old) == 1 else 'those that are'} old, damaged or from another array"
+    return f"parity matches RAID {group.level}, {spare}{place}"
 
 
 def lines(told: Told, twins: Mapping[int, int] | None = None) -> list[str]:
     """What is said of all that relations tell; `twins` has the images that hold the same as another one from start to end, which are not asked."""
     said = []
     for it in told.known:
-        family = it.family
-        if family.level == COPIES:
-            said += [f"images {one} and {other} hold the same data" for one, other in family.copies]
-            if not family.copies:
-                two = named(family.images) if len(family.images) == LEAST_IMAGES else f"two of {named(family.images)}"
-                said.append(f"{two} hold the same data in {counted(family.rows, 'row')} of those sampled")
+        group = it.group
+        if group.level == COPIES:
+            said += [f"images {one} and {other} hold the same data" for one, other in group.copies]
+            if not group.copies:
+                two = named(group.images) if len(group.images) == MIN_IMAGES else f"two of {named(group.images)}"
+                said.append(f"{two} hold the same data in {counted(group.rows, 'row')} of those sampled")
             continue
-        if family.may_be_copies:
-            said.append(f"{named(family.images)} hold the same data in {counted(family.rows, 'row')} of those sampled: copies, or RAID 5 whose third "
+        if group.may_be_copies:
+            said.append(f"{named(group.images)} hold the same data in {counted(group.rows, 'row')} of those sampled: copies, or RAID 5 whose third "
                         "disk is missing and held zeros there")
             continue
         chunk = f", chunks of {sectors_said(it.chunk)}" if it.chunk else ""
         begin = f", first match at sector {it.begin}" if it.begin is not None else ""
-        said.append(f"{named(family.images)}: {lost_line(family, chunk + begin)}")
-        said += [old.line(f"image {old.image}") for old in family.old] + ([family.reshape.line()] if family.reshape else [])
-        if family.loose:
-            said.append(f"{named(family.images)}: parity matches nothing in {counted(family.loose, 'row')} of those sampled, the first at sector "
-                        f"{family.loose_first}. Possible causes: bad areas, an old or half rebuilt disk, parity that was never written")
+        said.append(f"{named(group.images)}: {lost_line(group, chunk + begin)}")
+        said += [old.line(f"image {old.image}") for old in group.old] + ([group.reshape.line()] if group.reshape else [])
+        if group.loose:
+            said.append(f"{named(group.images)}: parity matches nothing in {counted(group.loose, 'row')} of those sampled, the first at sector "
+                        f"{group.loose_first}. Possible causes: bad areas, an old or half rebuilt disk, parity that was never written")
     return said + parts_lines(told) + alone_lines(told, twins or {})
 
 
@@ -209,7 +209,7 @@ def alone_lines(told: Told, twins: Mapping[int, int]) -> list[str]:
     said = [f"image {image}: matches only image {twins[image]}, which holds the same data" for image in told.alone if image in twins]
     if not alone:
         return said
-    if all(it.family.level == COPIES for it in told.known):
+    if all(it.group.level == COPIES for it in told.known):
         return [*said, f"{named(alone)}: matches nothing. Its copy is missing, or it is no member, zeros or damaged"]
     why = "No member, zeros, too old or damaged to tell, or from an array that misses as many disks as its level tolerates"
     like = [it for it in nested(told) if len(alone) == (it.members or 0) - LEVELS[it.level or ""].parity]
@@ -217,16 +217,16 @@ def alone_lines(told: Told, twins: Mapping[int, int]) -> list[str]:
     return [*said, f"{named(alone)}: matches nothing. {why}{parts}"]
 
 
-def nested(told: Told) -> list[Family]:
-    """The families that may be parts of a larger array: those whose level and number of disks are told."""
-    return [it.family for it in told.known if it.family.level in NESTED and not it.family.is_either]
+def nested(told: Told) -> list[ImageGroup]:
+    """The groups that may be parts of a larger array: those whose level and number of disks are told."""
+    return [it.group for it in told.known if it.group.level in NESTED and not it.group.is_either]
 
 
 def parts_lines(told: Told) -> list[str]:
-    """What is said of families of one level with as many disks each: the arrays may be the parts of a larger one."""
-    found: dict[tuple[str, int], list[Family]] = {}
-    for family in nested(told):
-        found.setdefault((family.level or "", family.members or 0), []).append(family)
-    return [f"{' and '.join(named(family.images) for family in alike)}: {len(alike)} arrays of RAID {level} with {members} disks each. Each "
+    """What is said of groups of one level with as many disks each: the arrays may be the parts of a larger one."""
+    found: dict[tuple[str, int], list[ImageGroup]] = {}
+    for group in nested(told):
+        found.setdefault((group.level or "", group.members or 0), []).append(group)
+    return [f"{' and '.join(named(group.images) for group in alike)}: {len(alike)} arrays of RAID {level} with {members} disks each. Each "
             f"stands by itself, or they are the parts of one {NESTED[level]}, which is not searched (docs/RECIPES.md tells how to join them)"
             for (level, members), alike in found.items() if len(alike) > 1]

@@ -11,16 +11,16 @@ import time
 from collections.abc import Iterable, Iterator, Mapping, Sequence
 
 from ..errors import OutsideError, said
-from . import families, shifts
-from .families import LEVEL_5, LEVEL_6, connected
+from . import image_groups, shifts
+from .image_groups import LEVEL_5, LEVEL_6, connected
 from .images import Image
 from .relations import Relations
 from .shifts import ALIGNED, Distances
-from .ties import MOST_ROWS, Known, Ties
+from .ties import MAX_ROWS, Known, Ties
 
 # So many ways to choose the offsets are tried, for each part of the images so many places behind the first one, and so many beginnings.
-MOST_WAYS, MOST_PLACES, MOST_BEGINNINGS = 32, 8, 3
-# The ways are asked about for this part of the time of a trial at most. Rows are looked at so many times, each time closer to each other.
+MAX_WAYS, MAX_PLACES, MAX_BEGINNINGS = 32, 8, 3
+# The ways are asked about for this part of the time of a step at most. Rows are looked at so many times, each time closer to each other.
 PART, PASSES = 6, 3
 # Where partitions and the data of md begin, and the first extents of LVM2: multiples of so many sectors, from a first one on.
 GRIDS = ((0, 2048), (2048, 8192))
@@ -36,7 +36,7 @@ class Unlike:
     known: Known
 
     def line(self) -> str:
-        """What is said of it."""
+        """Return it as one line of text."""
         return f"the data begin at different sectors of the images; parity matches at these: {', '.join(map(str, self.offsets))}"
 
 
@@ -74,9 +74,9 @@ def further(part: Mapping[int, int], main: Mapping[int, int], images: Mapping[in
     by_text = [one - part[image] - (other - main[base]) for image, base in itertools.product(part, main)
                for one, other in itertools.product(named.get(image, ()), named.get(base, ()))]
     if not found.told:
-        return list(dict.fromkeys([*by_text, *by_held]))[:MOST_PLACES]
+        return list(dict.fromkeys([*by_text, *by_held]))[:MAX_PLACES]
     alike = [there - here for there in main.values() for here in part.values()]
-    return list(dict.fromkeys([*weaker[:MOST_PLACES // 2], *by_held[:1], *by_text, *by_held, *alike]))[:MOST_PLACES]
+    return list(dict.fromkeys([*weaker[:MAX_PLACES // 2], *by_held[:1], *by_text, *by_held, *alike]))[:MAX_PLACES]
 
 
 def chosen(choices: Sequence[Sequence[int]], behind: int) -> Iterator[tuple[int, ...]]:
@@ -96,7 +96,7 @@ def ways(images: Sequence[Image], found: Distances, named: Starts) -> list[tuple
     choices = [further(part, main, by_number, found, named) for part in others]
     most = sum(len(it) - 1 for it in choices)
     made: dict[tuple[int, ...], None] = {}
-    for places in itertools.islice((it for behind in range(most + 1) for it in chosen(choices, behind)), MOST_WAYS):
+    for places in itertools.islice((it for behind in range(most + 1) for it in chosen(choices, behind)), MAX_WAYS):
         begins = main | {image: place + distance for part, place in zip(others, places) for image, distance in part.items()}
         least = min(begins.values())
         made[tuple(begins[image.number] - least for image in images)] = None
@@ -111,23 +111,23 @@ def beginnings(images: Sequence[Image], way: Sequence[int], begin: int, named: S
     here = {image.number: further for image, further in zip(images, way)}
     usual = [first + (begin - first) // step * step for first, step in GRIDS]
     found = [*by_text[:1], *[begin // ALIGNED * ALIGNED] * (not few), *held(here, {image.number: image for image in images}), *usual]
-    return [it for it in dict.fromkeys(found) if 0 <= it <= begin][:MOST_BEGINNINGS]
+    return [it for it in dict.fromkeys(found) if 0 <= it <= begin][:MAX_BEGINNINGS]
 
 
 def tied(ties: Ties, images: Sequence[Image], way: Sequence[int], end: int) -> list[Known]:
     """What ties all of these images in some rows, where the data of each begin so much further."""
     last = min(end, *(image.sectors for image in images)) - max(way)
     told = ties.told([image.number for image in images], 0, last, way)
-    return [it for it in told.known if len(it.family.images) == len(images) and it.family.level in (LEVEL_5, LEVEL_6)]
+    return [it for it in told.known if len(it.group.images) == len(images) and it.group.level in (LEVEL_5, LEVEL_6)]
 
 
 def begin_of(ties: Ties, numbers: Sequence[int], way: Sequence[int], known: Known) -> int:
-    """The first row of a family behind the last one in which nothing is tied before a row with a tie of all images. What stands before the data may
-    be tied by chance, as metadata are that are the same on two images."""
-    begin = known.family.first if known.begin is None else known.begin
-    first, last = begin, known.family.last
-    for near in range(PASSES if known.family.parity else 0):
-        found = ties.relations(numbers, first, last + 1, max(1, (last - first) // MOST_ROWS), way)
+    """The first row of a group behind the last one in which nothing is tied before a row with a tie of all images. What stands before the data
+    may be tied by chance, as metadata are that are the same on two images."""
+    begin = known.group.first if known.begin is None else known.begin
+    first, last = begin, known.group.last
+    for near in range(PASSES if known.group.parity else 0):
+        found = ties.relations(numbers, first, last + 1, max(1, (last - first) // MAX_ROWS), way)
         told = behind_loose(found, frozenset(numbers), near > 0) if found else None
         if told is None:
             break
@@ -139,7 +139,7 @@ def begin_of(ties: Ties, numbers: Sequence[int], way: Sequence[int], known: Know
 def behind_loose(found: Relations, images: frozenset[int], near: bool) -> tuple[int, int] | None:
     """The last row in which something stands and nothing is tied, before the first row with a tie of all images, or `near` it before the last row;
     and the first that is tied behind it. None where there is no such row."""
-    whole = (place for place, it in enumerate(found.rows) if images == families.tied_images(it.ties))
+    whole = (place for place, it in enumerate(found.rows) if images == image_groups.tied_images(it.ties))
     end = len(found.rows) if near else next(whole, 0)
     loose = [place for place, it in enumerate(found.rows[:end]) if not it.ties and it.zero != images]
     tied_row = next((it.first for it in found.rows[loose[-1] + 1:] if it.ties), None) if loose else None
@@ -156,7 +156,7 @@ def look(ties: Ties, images: Sequence[Image], found: Distances, end: int, named:
         if time.monotonic() > until:
             break
         for known in tied(ties, images, way, end):
-            if known.family.parity:
+            if known.group.parity:
                 return begun(ties, images, way, known, named)
             if agreed is not None and tuple(agreed[image.number] for image in images) == way:
                 perhaps.append((way, known))
@@ -167,7 +167,7 @@ def begun(ties: Ties, images: Sequence[Image], way: Sequence[int], known: Known,
     """The offsets of images whose data begin so much further than those of another, by where these may begin."""
     begin = begin_of(ties, [image.number for image in images], way, known)
     return [Unlike(tuple(first + further for further in way), dataclasses.replace(known, begin=begin - first))
-            for first in beginnings(images, way, begin, named, not known.family.parity)]
+            for first in beginnings(images, way, begin, named, not known.group.parity)]
 
 
 def guessed(images: Sequence[Image], found: Sequence[shifts.Shift]) -> tuple[int, ...]:
@@ -180,5 +180,5 @@ def guessed(images: Sequence[Image], found: Sequence[shifts.Shift]) -> tuple[int
 
 
 def barely_tied(known: Iterable[Known]) -> bool:
-    """Nothing but few rows tie the images of these families, as of those of which some begin at the same sector and others do not."""
-    return all(it.family.level in (LEVEL_5, LEVEL_6) and not it.family.parity for it in known)
+    """Nothing but few rows tie the images of these groups, as of those of which some begin at the same sector and others do not."""
+    return all(it.group.level in (LEVEL_5, LEVEL_6) and not it.group.parity for it in known)

@@ -219,6 +219,6 @@ class Answers:
         """Return the answer that is given if nothing that the images give a reason for has a rating; `told` is what parity tells of the images, and
         `tested` are the candidates."""
         # With as many disks lost as the level bears there are as many data disks as images.
-        if lost := too_many_lost(self.different) if not any(it.family.parity for it in told.known) else None:
+        if lost := too_many_lost(self.different) if not any(it.group.parity for it in told.known) else None:
             return lost
         return closed(tested) or encrypted(self.different, told)

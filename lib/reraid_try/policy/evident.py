@@ -17,7 +17,7 @@ from ..errors import OutsideError, said
 from ..evidence import copies as copying
 from ..evidence import stopped as early_ends
 from ..evidence import gathered, hints, metadata, places, sampling, shared, shifts, ties, unlike
-from ..evidence.families import LEVEL_5, LEVEL_6
+from ..evidence.image_groups import LEVEL_5, LEVEL_6
 from ..evidence.images import Image
 from ..evidence.places import Places
 from ..evidence.relations import Relations
@@ -26,27 +26,27 @@ from ..evidence.shifts import Distances
 from ..evidence.ties import Ties, Told
 from ..evidence.unlike import Unlike
 from ..units import SECTOR
-from . import cures, mirrors, plain, proposed, stopped, thousands
-from .cures import Family
-from .hunt import Hunt
-from .plain import Aim, Span, Unsound
+from . import relaxations, mirrors, plain, proposed, stopped, thousands
+from .relaxations import RelaxationKind
+from .scope import Scope
+from .plain import Target, Span, Unsound
 from .shapes import Shape
-from .steps import Step, delayed, of_kinds, with_bad_rows
-from .trials import Trial
+from .stages import Stage, delayed, of_kinds, with_bad_rows
+from .steps import Step
 
 if TYPE_CHECKING:
     from .search import Search
 
-# So many things are loosened at most, one after the other, where evidence says which array is searched.
-MOST_LOOSENED = 2
+# So many things are relaxed at most, one after the other, where evidence says which array is searched.
+MAX_RELAXED = 2
 
 
 @dataclasses.dataclass(frozen=True)
 class Later:
-    """An aim that was tried with nothing loosened, and its hunt."""
+    """A target that was tried with nothing relaxed, and its scope."""
 
-    aim: Aim
-    hunt: Hunt
+    target: Target
+    scope: Scope
 
 
 @dataclasses.dataclass(frozen=True)
@@ -59,7 +59,7 @@ class Part:
 
 def is_closed(it: Candidate) -> bool:
     """Parity speaks for a candidate and it is encrypted, so that nothing more is to be seen in it."""
-    return it.trial.shape.parity and bool(it.found.encrypted)
+    return it.step.shape.parity and bool(it.found.encrypted)
 
 
 def enough(it: Candidate) -> bool:
@@ -68,16 +68,16 @@ def enough(it: Candidate) -> bool:
 
 
 class Evident:
-    """The trials that evidence gives a reason for, of a search."""
+    """The steps that evidence gives a reason for, of a search."""
 
     def __init__(self, search: "Search") -> None:
         self.search = search
-        # A trial of these takes no longer than a question of others.
+        # A step of these takes no longer than a question of others.
         seconds = search.options.question_seconds
         self.options = dataclasses.replace(search.options, seconds=seconds, question=seconds)
         self.searched: list[Part] = []
         self.told = Told()
-        self.kept: tuple[Aim, Relations | None] | None = None
+        self.kept: tuple[Target, Relations | None] | None = None
         self.copied_pairs: list[tuple[int, int]] = []
 
     def asked(self) -> Ties:
@@ -89,15 +89,15 @@ class Evident:
         self.searched = list(self.parts())
         return any([self.of_part(part) for part in self.searched])
 
-    def hunt(self) -> Hunt:
-        """The hunt in which all else is tried: over the first partition that the disks have in common, or else over all images."""
+    def scope(self) -> Scope:
+        """The scope in which all else is tried: over the first partition that the disks have in common, or else over all images."""
         search = self.search
         for part in self.searched:
             if part.span.partition:
                 search.report.say("reason", f"continuing in the partition from sector {part.span.first} on", first=part.span.first, end=part.span.end)
                 images = self.within(part.images, part.span)
-                return Hunt(search.options, search.commands, images, search.say_late, start=part.span.first, shared=search.surveys)
-        return Hunt(search.options, search.commands, search.images, search.say_late, shared=search.surveys)
+                return Scope(search.options, search.commands, images, search.say_late, start=part.span.first, shared=search.surveys)
+        return Scope(search.options, search.commands, search.images, search.say_late, shared=search.surveys)
 
     def within(self, numbers: Iterable[int], span: Span) -> list[Image]:
         """Images by their numbers, as they are seen in a part of the disks."""
@@ -105,17 +105,17 @@ class Evident:
         return [gathered.within(image, span.first, span.end) for image in images] if span.partition else images
 
     def of_part(self, part: Part) -> bool:
-        """The trials of a part; what comes later of images of which a candidate says enough is left. Of aims that are alike but for where the data
-        begin all are tried before anything is loosened. It says whether there is such a candidate."""
+        """The steps of a part; what comes later of images of which a candidate says enough is left. Of targets that are alike but for where the data
+        begin all are tried before anything is relaxed. It says whether there is such a candidate."""
         solved: set[int] = set()
-        for _, alike in itertools.groupby(self.aims(part), key=lambda aim: bool(aim.moved)):
+        for _, alike in itertools.groupby(self.targets(part), key=lambda target: bool(target.moved)):
             later: list[Later] = []
-            for aim in alike:
-                if solved.isdisjoint(aim.images) and self.seek(aim, later):
-                    solved |= set(aim.images)
+            for target in alike:
+                if solved.isdisjoint(target.images) and self.seek(target, later):
+                    solved |= set(target.images)
             for it in later:
-                if solved.isdisjoint(it.aim.images) and self.loosen(it):
-                    solved |= set(it.aim.images)
+                if solved.isdisjoint(it.target.images) and self.relax(it):
+                    solved |= set(it.target.images)
         return bool(solved)
 
     def images(self) -> list[Image]:
@@ -136,7 +136,7 @@ class Evident:
         if not searched and images:
             yield Part(tuple(image.number for image in images), Span(0, min(image.sectors for image in images)))
 
-    def aims(self, part: Part) -> list[Aim]:
+    def targets(self, part: Part) -> list[Target]:
         """What is tried of a part, after what is known of it is printed."""
         self.search.report.bar.show("tests which images parity matches")
         asked = self.asked()
@@ -147,35 +147,35 @@ class Evident:
             return self.by_metadata(part)
         twins = {image.like: image.number for image in self.search.images if image.like is not None}
         self.say("relation", ties.lines(found, twins))
-        self.copied_pairs = [pair for it in found.known for pair in it.family.copies]
-        self.search.stale |= {old.image for it in found.known for old in it.family.old}
-        self.search.reshapes += [it.family.reshape for it in found.known if it.family.reshape and it.family.reshape not in self.search.reshapes]
+        self.copied_pairs = [pair for it in found.known for pair in it.group.copies]
+        self.search.stale |= {old.image for it in found.known for old in it.group.old}
+        self.search.reshapes += [it.group.reshape for it in found.known if it.group.reshape and it.group.reshape not in self.search.reshapes]
         ways = plain.perhaps_copied, plain.tied, plain.copied, plain.untied
         perhaps, tied, copied, untied = (of(found, part.images, part.span, self.options) for of in ways)
         copied, alike = plain.without_each(copied, plain.doubtful(found)), plain.without_each(self.alike(part), [] if tied else self.without_like())
         # Of large images that are the same it is known at once how they are grouped.
         early = alike[:1] if sampling.is_large(part.span.first, part.span.end) else []
         there = [image for image in self.search.images if image.first is not None]
-        copied[1:1] = plain.halves_aims(found, there, part.span, self.options)
+        copied[1:1] = plain.halves_targets(found, there, part.span, self.options)
         others = [*early, *self.unlike(asked, found, part), *perhaps[:1], *tied, *perhaps[1:], *copied, *alike[len(early):], *untied]
         others = plain.with_thousands(others, plain.silent(found, part.images, self.options))
         return [*self.by_metadata(part), *self.without_stopped(found, part), *others]
 
-    def without_stopped(self, found: Told, part: Part) -> list[Aim]:
+    def without_stopped(self, found: Told, part: Part) -> list[Target]:
         """What is tried of a part without images whose imaging may have stopped, which are named."""
         images = [self.search.images[number] for number in part.images]
         short = early_ends.found(images, part.span.end if part.span.partition else max(image.sectors for image in images))
         self.say("stopped", (stopped.line(image, images) for image in short))
-        return stopped.aims(short, found, part.span, images, self.options)
+        return stopped.targets(short, found, part.span, images, self.options)
 
-    def alike(self, part: Part) -> list[Aim]:
+    def alike(self, part: Part) -> list[Target]:
         """What is tried where whole images are the same, as the copies of a RAID 1 or 10 are."""
         same = [image for image in self.search.images if image.like is not None]
         if not same or part.span.partition or not self.options.wants("10"):
             return []
         why = "; ".join(f"image {image.number} is the same as image {image.like}" for image in same)
         there = [image for image in self.search.images if image.first is not None]
-        return [Aim(tuple(image.number for image in there), part.span, why, copied=True)]
+        return [Target(tuple(image.number for image in there), part.span, why, copied=True)]
 
     def without_like(self) -> list[int]:
         """The images that hold something, of which none holds the same as another."""
@@ -187,26 +187,26 @@ class Evident:
         for line in lines:
             self.search.report.say(event, line)
 
-    def by_metadata(self, part: Part) -> list[Aim]:
+    def by_metadata(self, part: Part) -> list[Target]:
         """What is tried by the metadata that stand on the disks still."""
         place = Place(part.span.first, part.span.end - part.span.first, part.images) if part.span.partition else None
         names = {number: self.search.images[number].name for number in part.images}
         members = metadata.examine(self.search.commands, self.search.room.base, names, place)
         members += metadata.examine_lvm({number: part.span.first for number in names}, names)
         self.say("metadata", (it.line(f"image {it.image}") for it in members))
-        found = [plain.metadata_aim(it, part.span, self.options) for it in metadata.arrays(members)]
+        found = [plain.metadata_target(it, part.span, self.options) for it in metadata.arrays(members)]
         # A set with an offset for each image has to name all.
-        named = [aim for aim in found if aim and aim.shapes and (not aim.is_each or len(aim.images) == len(self.search.images))]
+        named = [target for target in found if target and target.shapes and (not target.is_each or len(target.images) == len(self.search.images))]
         if not sampling.is_large(part.span.first, min(part.span.end, part.span.first + self.options.first // SECTOR)):
             return named
-        exact = [plain.named_aim(it, part.span, self.options, len(self.search.images)) for it in metadata.arrays(members)]
+        exact = [plain.named_target(it, part.span, self.options, len(self.search.images)) for it in metadata.arrays(members)]
         return [*filter(None, exact), *named]
 
-    def unlike(self, asked: Ties, found: Told, part: Part) -> list[Aim]:
+    def unlike(self, asked: Ties, found: Told, part: Part) -> list[Target]:
         """What is tried of images that nothing ties, where distances tell that their data begin at unlike sectors, or that they are copies which lie
         elsewhere on the next disk; the former too of images of which some are tied to nothing, where as many disks of the others are lost, or few
         rows tie these."""
-        lost = sum(it.family.lost or 0 for it in found.known)
+        lost = sum(it.group.lost or 0 for it in found.known)
         if not found.asked or found.known and not (found.alone and (len(found.alone) <= lost or unlike.barely_tied(found.known))):
             return []
         images, span = [self.search.images[number] for number in part.images], part.span
@@ -214,13 +214,13 @@ class Evident:
         offsets = [] if span.partition else self.offsets(asked, images, shown, span.end)
         if offsets:
             self.say("unlike", [offsets[0].line()])
-            return [plain.unlike_aim(it, part.images, span, self.options) for it in offsets]
+            return [plain.unlike_target(it, part.images, span, self.options) for it in offsets]
         if found.known:
             return []
         distance = shifts.apart(shown.told, len(images)) if self.options.wants("10") else None
-        copies = [plain.apart_aim(distance, part.images, span)] if distance and self.lie_apart(images, distance, span) else []
+        copies = [plain.apart_target(distance, part.images, span)] if distance and self.lie_apart(images, distance, span) else []
         guessed = () if span.partition else unlike.guessed(images, shown.told)
-        begins = plain.guessed_aims(guessed, part.images, span, self.options) if guessed else []
+        begins = plain.guessed_targets(guessed, part.images, span, self.options) if guessed else []
         # Distances that need not agree with one beginning of each image, and do, are none of copies.
         return [*begins, *copies] if shifts.agree(shown.told, len(images)) else [*copies, *begins]
 
@@ -238,87 +238,88 @@ class Evident:
         self.say("metadata", (metadata.starts_line(f"image {number}", starts) for number, starts in named.items()))
         return unlike.look(asked, images, shown, end, named)
 
-    def seek(self, aim: Aim, later: list[Later]) -> bool:
-        """The trials of an aim; where it is one of several that are alike but for where the data begin, those with something loosened are left for
+    def seek(self, target: Target, later: list[Later]) -> bool:
+        """The steps of a target; where it is one of several that are alike but for where the data begin, those with something relaxed are left for
         later. It says whether a candidate says enough."""
         search = self.search
-        search.report.say("reason", f"trying first: {aim.why}", images=list(aim.images), first=aim.span.first, end=aim.span.end, why=aim.why)
-        before, search.why = len(search.tested), aim.why
-        images = self.within(aim.images, aim.span)
+        search.report.say("reason", f"trying first: {target.why}", images=list(target.images), first=target.span.first, end=target.span.end,
+                          why=target.why)
+        before, search.why = len(search.tested), target.why
+        images = self.within(target.images, target.span)
         search.report.bar.show("surveys the images")
-        options = self.options if aim.first is None else dataclasses.replace(self.options, first=aim.first)
-        hunt = Hunt(options, search.commands, images, search.say_late, start=aim.span.first, asked=dict(aim.asked), tied=aim.tied,
-                    shared=search.surveys)
-        hunt.ask_places = functools.partial(self.places_of, aim)
-        search.say_evidence(hunt)
-        if aim.word:
-            self.test_named(hunt, aim, aim.word)
+        options = self.options if target.first is None else dataclasses.replace(self.options, first=target.first)
+        scope = Scope(options, search.commands, images, search.say_late, start=target.span.first, asked=dict(target.asked), tied=target.tied,
+                      shared=search.surveys)
+        scope.ask_places = functools.partial(self.places_of, target)
+        search.say_evidence(scope)
+        if target.word:
+            self.test_named(scope, target, target.word)
             search.why = ""
             return any(it.score is Score.WHOLE or it.found.has_whole_files for it in self.since(before))
-        ended = self.read_off(hunt, aim, before) or self.by_thousands(hunt, aim, before)
-        ended = ended or aim.copied and self.copies(hunt, aim, before) or self.plainly(hunt, aim, before)
-        if aim.unsound and self.with_all(hunt, aim, aim.unsound, before):
+        ended = self.read_off(scope, target, before) or self.by_thousands(scope, target, before)
+        ended = ended or target.copied and self.copies(scope, target, before) or self.plainly(scope, target, before)
+        if target.unsound and self.with_all(scope, target, target.unsound, before):
             ended = True
         if not ended:
-            if aim.moved:
-                later.append(Later(aim, hunt))
+            if target.moved:
+                later.append(Later(target, scope))
             else:
-                self.loosened(hunt, aim, before)
+                self.relaxed(scope, target, before)
         search.why = ""
         return any(map(enough, self.since(before)))
 
-    def test_named(self, hunt: Hunt, aim: Aim, text: str) -> None:
+    def test_named(self, scope: Scope, target: Target, text: str) -> None:
         """Tests the set that metadata name."""
-        word, shape = read_word(text).over(aim.images), aim.shapes[0]
+        word, shape = read_word(text).over(target.images), target.shapes[0]
         listing = Listing((Ranked(0, word.text),), 1, True, "named by metadata")
         if word.copying:
-            trial = Trial(shape, copied=Copied((word.copying,), shape.members, shape.missing))
+            step = Step(shape, copied=Copied((word.copying,), shape.members, shape.missing))
         else:
-            trial = Trial(shape, request=hunt.asking.request(shape))
-        told = self.search.say_trial(hunt, trial, listing)
-        self.search.take(hunt, told, listing.sets, lambda it: (None if word.copying else word, hunt.word(it.text)))
+            step = Step(shape, request=scope.asking.request(shape))
+        told = self.search.say_step(scope, step, listing)
+        self.search.take(scope, told, listing.sets, lambda it: (None if word.copying else word, scope.word(it.text)))
 
-    def with_all(self, hunt: Hunt, aim: Aim, unsound: Unsound, before: int) -> bool:
-        """The trials of an aim with all images of the family in slots, where rows may be bad, unless such a candidate has a sign already: what leaves
-        some out may be whole too, and does not say that these are old. It says whether there is such a candidate."""
+    def with_all(self, scope: Scope, target: Target, unsound: Unsound, before: int) -> bool:
+        """The steps of a target with all images of the group in slots, where rows may be bad, unless such a candidate has a rating already:
+        what leaves some out may be whole too, and does not say that these are old. It says whether there is such a candidate."""
         if self.has_all(unsound, before):
             return True
         search, why = self.search, self.search.why
-        search.report.say("reason", unsound.line(), images=list(unsound.images), first=aim.span.first, end=aim.span.end, why=unsound.line())
+        search.report.say("reason", unsound.line(), images=list(unsound.images), first=target.span.first, end=target.span.end, why=unsound.line())
         search.why = unsound.line()
-        if unsound.images != aim.images:
-            hunt = Hunt(self.options, search.commands, self.within(unsound.images, aim.span), search.say_late, start=aim.span.first,
-                        asked=dict(aim.asked), tied=True, shared=search.surveys)
-        hunt.program.seconds = search.options.seconds
-        steps = (with_bad_rows(count, unsound.shape) for count in range(1, MOST_LOOSENED + 1))
-        found = any(search.take_step(step, hunt) or self.has_all(unsound, before) for step in steps)
+        if unsound.images != target.images:
+            scope = Scope(self.options, search.commands, self.within(unsound.images, target.span), search.say_late, start=target.span.first,
+                          asked=dict(target.asked), tied=True, shared=search.surveys)
+        scope.program.seconds = search.options.seconds
+        stages = (with_bad_rows(count, unsound.shape) for count in range(1, MAX_RELAXED + 1))
+        found = any(search.take_stage(stage, scope) or self.has_all(unsound, before) for stage in stages)
         search.why = why
         return found
 
     def has_all(self, unsound: Unsound, before: int) -> bool:
-        """A candidate that was tested since has a sign, with all images of a family in slots."""
+        """A candidate that was tested since has a rating, with all images of a group in slots."""
         return any(it.score >= Score.CHECKED and set(unsound.images) <= set(it.word.images) for it in self.since(before))
 
-    def loosen(self, it: Later) -> bool:
-        """The trials of an aim with something loosened, which were left for later; it says whether a candidate says enough."""
-        before, self.search.why = len(self.search.tested), it.aim.why
-        self.loosened(it.hunt, it.aim, before)
+    def relax(self, it: Later) -> bool:
+        """The steps of a target with something relaxed, which were left for later; it says whether a candidate says enough."""
+        before, self.search.why = len(self.search.tested), it.target.why
+        self.relaxed(it.scope, it.target, before)
         self.search.why = ""
         return any(map(enough, self.since(before)))
 
-    def copies(self, hunt: Hunt, aim: Aim, before: int) -> bool:
+    def copies(self, scope: Scope, target: Target, before: int) -> bool:
         """RAID 10 by its copies, with as few members missing as may be; it says whether the search is at its end, or a candidate is content."""
         pairs = self.copied_pairs + [(image.like, image.number) for image in self.search.images if image.like is not None]
-        if aim.halves:
-            pairs = [pair for pair in pairs if pair not in aim.halves]
-            ways = list(mirrors.without_one(pairs, aim.halves, aim.images))
-            return any(self.search.grouped(hunt, it, counts) or self.is_content(before) for counts in mirrors.PLAIN_FIRST for it in ways)
-        grouped = mirrors.told(pairs, aim.images) if sampling.is_large(0, hunt.evidence.end) and not aim.apart else None
-        if grouped and (self.search.grouped(hunt, grouped) or self.is_content(before)):
+        if target.halves:
+            pairs = [pair for pair in pairs if pair not in target.halves]
+            ways = list(mirrors.without_one(pairs, target.halves, target.images))
+            return any(self.search.grouped(scope, it, counts) or self.is_content(before) for counts in mirrors.PLAIN_FIRST for it in ways)
+        grouped = mirrors.told(pairs, target.images) if sampling.is_large(0, scope.evidence.end) and not target.apart else None
+        if grouped and (self.search.grouped(scope, grouped) or self.is_content(before)):
             return True
-        count = len(aim.images)
-        asked = mirrors.moved(count, aim.apart, hunt.evidence) if aim.apart else mirrors.near(count, self.alike_count(aim.images))
-        return any(self.search.mirrors(hunt, it) or self.is_content(before) for it in asked if it.missing in aim.missing)
+        count = len(target.images)
+        asked = mirrors.moved(count, target.apart, scope.evidence) if target.apart else mirrors.near(count, self.alike_count(target.images))
+        return any(self.search.mirrors(scope, it) or self.is_content(before) for it in asked if it.missing in target.missing)
 
     def alike_count(self, numbers: Iterable[int]) -> int:
         """How many of these images hold the same wholly, of most of those of which another one does; 1 where none does."""
@@ -330,146 +331,147 @@ class Evident:
         like = self.search.images[number].like
         return number if like is None else like
 
-    def places_of(self, aim: Aim, shape: Shape) -> Places | None:
-        """Where parity may lie on the images of an aim at a shape, by rows of which a part is zeros; None where that cannot be told. Of what parity
+    def places_of(self, target: Target, shape: Shape) -> Places | None:
+        """Where parity may lie on the images of a target at a shape, by rows of which a part is zeros; None where that cannot be told. Of what parity
         ties that is asked at the first shape, and of other images at those at which as many disks are lost as the level bears."""
-        asked = shape == aim.shapes[0] if aim.tied else not shape.parity
-        if not asked or aim.is_each and not aim.moved or shape.levels not in (LEVEL_5, LEVEL_6):
+        asked = shape == target.shapes[0] if target.tied else not shape.parity
+        if not asked or target.is_each and not target.moved or shape.levels not in (LEVEL_5, LEVEL_6):
             return None
-        found = self.zero_rows(aim)
-        return Places(found, aim.images, shape.levels, shape.members, self.unread(aim)) if found else None
+        found = self.zero_rows(target)
+        return Places(found, target.images, shape.levels, shape.members, self.unread(target)) if found else None
 
-    def zero_rows(self, aim: Aim) -> Relations | None:
-        """The relations of many rows of the images of an aim, kept until others are asked for; None where they were not had in their time."""
-        if self.kept is None or self.kept[0] != aim:
+    def zero_rows(self, target: Target) -> Relations | None:
+        """The relations of many rows of the images of a target, kept until others are asked for; None where they were not had in their time."""
+        if self.kept is None or self.kept[0] != target:
             self.search.report.bar.show("looks for rows of zeros")
-            end = min(aim.span.end, *(self.search.images[image].sectors for image in aim.images)) - max(aim.moved, default=0)
-            self.kept = aim, self.zeros(aim, end)
+            end = min(target.span.end, *(self.search.images[image].sectors for image in target.images)) - max(target.moved, default=0)
+            self.kept = target, self.zeros(target, end)
         return self.kept[1]
 
-    def zeros(self, aim: Aim, end: int) -> Relations | None:
-        """The relations of many rows of the images of an aim up to an end."""
-        if sampling.is_large(aim.span.first, end):
-            return self.asked().spread(aim.images, aim.span.first, end, places.MOST_ROWS, aim.moved)
-        step = max(1, (end - aim.span.first) // places.MOST_ROWS)
-        return self.asked().relations(aim.images, aim.span.first, end, step, aim.moved)
+    def zeros(self, target: Target, end: int) -> Relations | None:
+        """The relations of many rows of the images of a target up to an end."""
+        if sampling.is_large(target.span.first, end):
+            return self.asked().spread(target.images, target.span.first, end, places.MAX_ROWS, target.moved)
+        step = max(1, (end - target.span.first) // places.MAX_ROWS)
+        return self.asked().relations(target.images, target.span.first, end, step, target.moved)
 
-    def unread(self, aim: Aim) -> Iterator[range]:
-        """The runs of rows in which maps call a sector of the images of an aim unread."""
-        for number, moved in itertools.zip_longest(aim.images, aim.moved, fillvalue=0):
+    def unread(self, target: Target) -> Iterator[range]:
+        """The runs of rows in which maps call a sector of the images of a target unread."""
+        for number, moved in itertools.zip_longest(target.images, target.moved, fillvalue=0):
             image = self.search.images[number]
             for gap in image.unread.gaps(image.sectors) if image.unread else ():
                 yield range(max(0, gap.start - moved), max(0, gap.stop - moved))
 
-    def by_places(self, hunt: Hunt, aim: Aim) -> bool:
+    def by_places(self, scope: Scope, target: Target) -> bool:
         """The sets that rows of which a part is zeros allow, by where parity lies in them, and where none of these is content those whose parity
         stays for several rows; it says whether a candidate is whole."""
-        where = hunt.places_at(aim.shapes[0]) if aim.tied and aim.shapes else None
+        where = scope.places_at(target.shapes[0]) if target.tied and target.shapes else None
         if where is None:
             return False
         before = len(self.search.tested)
-        return self.placed(hunt, aim, where) or not self.is_content(before) and self.placed(hunt, aim, where, cures.DELAY)
+        return self.placed(scope, target, where) or not self.is_content(before) and self.placed(scope, target, where, relaxations.DELAY)
 
-    def placed(self, hunt: Hunt, aim: Aim, where: Places, delay: int = 1) -> bool:
+    def placed(self, scope: Scope, target: Target, where: Places, delay: int = 1) -> bool:
         """The sets that these places allow, with parity that stays for so many rows; it says whether a candidate is whole."""
-        shape = aim.shapes[0]
-        best = where.best(self.offsets_of(hunt, aim), [delay * chunk for chunk in places.CHUNKS])
-        numbers = {image: place for place, image in enumerate(aim.images)}
-        words = dict.fromkeys(word for it in best for word in it.words(shape.levels, numbers, tuple(one + it.offset for one in aim.moved), delay))
+        shape = target.shapes[0]
+        best = where.best(self.offsets_of(scope, target), [delay * chunk for chunk in places.CHUNKS])
+        numbers = {image: place for place, image in enumerate(target.images)}
+        words = dict.fromkeys(word for it in best for word in it.words(shape.levels, numbers, tuple(one + it.offset for one in target.moved), delay))
         if not words:
             return False
         listing = Listing(tuple(Ranked(rank, word) for rank, word in enumerate(words)), None, True,
                           "those that the fewest rows of zeros contradict; no others were tested")
-        bare = cures.told("all landmarks (rows of zeros show the places of parity)", Family.BARE, [group.place for group in hunt.plan.groups])
+        places_of_groups = [group.place for group in scope.plan.groups]
+        bare = relaxations.told("all landmarks (rows of zeros show the places of parity)", RelaxationKind.BARE, places_of_groups)
         # What a fresh NTFS numbers 0 is no reason to call its group one that does not hold.
-        request = dataclasses.replace(hunt.asking.request(shape), records=True)
-        chosen = (bare, cures.delays()) if delay > 1 else (bare,)
-        trial = self.search.say_trial(hunt, Trial(shape, chosen, cures.loosened(request, chosen[1:])), listing)
-        return self.search.take(hunt, trial, listing.sets, lambda it: (read_word(it.text), hunt.word(it.text)))
+        request = dataclasses.replace(scope.asking.request(shape), records=True)
+        chosen = (bare, relaxations.delays()) if delay > 1 else (bare,)
+        step = self.search.say_step(scope, Step(shape, chosen, relaxations.relaxed(request, chosen[1:])), listing)
+        return self.search.take(scope, step, listing.sets, lambda it: (read_word(it.text), scope.word(it.text)))
 
-    def read_off(self, hunt: Hunt, aim: Aim, before: int) -> bool:
+    def read_off(self, scope: Scope, target: Target, before: int) -> bool:
         """The set that landmarks by the thousand propose; it says whether the search is at its end, or a candidate is content."""
-        shapes = () if aim.is_each else aim.by_thousands or aim.shapes
-        kinds = [kind for kind in thousands.seen(hunt) if kind in self.later_kinds] if shapes else []
-        return bool(kinds) and (proposed.attempt(self.search, hunt, shapes, kinds) or self.is_content(before))
+        shapes = () if target.is_each else target.by_thousands or target.shapes
+        kinds = [kind for kind in thousands.seen(scope) if kind in self.later_kinds] if shapes else []
+        return bool(kinds) and (proposed.attempt(self.search, scope, shapes, kinds) or self.is_content(before))
 
-    def by_thousands(self, hunt: Hunt, aim: Aim, before: int) -> bool:
+    def by_thousands(self, scope: Scope, target: Target, before: int) -> bool:
         """The sets at which the most landmarks by the thousand lie where they say, where the program knows such; it says whether the search is at
         its end, or a candidate is content."""
-        kinds = [kind for kind in thousands.seen(hunt) if kind in self.later_kinds] if aim.by_thousands else []
-        return bool(kinds) and (thousands.attempt_all(self.search, hunt, aim.by_thousands, kinds) or self.is_content(before))
+        kinds = [kind for kind in thousands.seen(scope) if kind in self.later_kinds] if target.by_thousands else []
+        return bool(kinds) and (thousands.attempt_all(self.search, scope, target.by_thousands, kinds) or self.is_content(before))
 
     @functools.cached_property
     def later_kinds(self) -> tuple[str, ...]:
         """The later kinds of landmarks that the program knows."""
         return known_kinds(self.search.commands, self.search.images[0].name)
 
-    def offsets_of(self, hunt: Hunt, aim: Aim) -> list[int]:
-        """The rows at which the data of an aim may begin, not behind one that is tied. Those of images that are moved are counted from where they
+    def offsets_of(self, scope: Scope, target: Target) -> list[int]:
+        """The rows at which the data of a target may begin, not behind one that is tied. Those of images that are moved are counted from where they
         begin, by what they hold, at the earliest."""
-        base = min(aim.moved, default=0)
-        values = {aim.span.first + offset for offset in hints.MORE_OFFSETS}.union(hunt.evidence.tried, [base] if aim.moved else [])
-        rows = {value - base for value in values if base <= value < hunt.evidence.end}
-        return sorted(row for row in rows if aim.begin is None or row <= aim.begin)
+        base = min(target.moved, default=0)
+        values = {target.span.first + offset for offset in hints.MORE_OFFSETS}.union(scope.evidence.tried, [base] if target.moved else [])
+        rows = {value - base for value in values if base <= value < scope.evidence.end}
+        return sorted(row for row in rows if target.begin is None or row <= target.begin)
 
-    def loosened(self, hunt: Hunt, aim: Aim, before: int) -> None:
-        """The trials of the shapes of an aim with ever more loosened, until a candidate is whole, encrypted or content; of the shapes alone of which
-        one is content already, where there are such. `before` is how many candidates were tested before those of the aim."""
+    def relaxed(self, scope: Scope, target: Target, before: int) -> None:
+        """The steps of the shapes of a target with ever more relaxed, until a candidate is whole, encrypted or content; of the shapes alone of which
+        one is content already, where there are such. `before` is how many candidates were tested before those of the target."""
         if self.search.is_hopeless(self.told):
             return
-        hunt.program.seconds = self.options.seconds
-        content = tuple(shape for shape in aim.shapes if self.is_content(before, shape))
-        aim = dataclasses.replace(aim, shapes=content or aim.shapes)
-        for count in range(1, MOST_LOOSENED + 1):
-            if self.take_step(aim, count, hunt, before) or self.is_content(before):
+        scope.program.seconds = self.options.seconds
+        content = tuple(shape for shape in target.shapes if self.is_content(before, shape))
+        target = dataclasses.replace(target, shapes=content or target.shapes)
+        for count in range(1, MAX_RELAXED + 1):
+            if self.take_stage(target, count, scope, before) or self.is_content(before):
                 return
 
-    def plainly(self, hunt: Hunt, aim: Aim, before: int) -> bool:
-        """The trials with nothing loosened; it says whether the search is at its end. What is listed comes before what zeros allow, but where it is
+    def plainly(self, scope: Scope, target: Target, before: int) -> bool:
+        """The steps with nothing relaxed; it says whether the search is at its end. What is listed comes before what zeros allow, but where it is
         known to say nothing: P is the same in any order of the disks, so without landmarks it is Q alone that tells one. Where zeros may tell the
-        order too a listing is asked for again, in the whole time of a trial, only if they do not."""
-        by_q = any(LEVEL_6 in shape.telling for shape in aim.shapes)
-        silent = not by_q and not hunt.plan.groups
-        if silent and self.by_places(hunt, aim):
+        order too a listing is asked for again, in the whole time of a step, only if they do not."""
+        by_q = any(LEVEL_6 in shape.telling for shape in target.shapes)
+        silent = not by_q and not scope.plan.groups
+        if silent and self.by_places(scope, target):
             return True
-        # What the images are tied for is worth the whole time of a trial.
-        hunt.program.seconds = self.search.options.seconds if aim.tied and by_q else self.options.seconds
-        if self.plain_steps(aim, hunt, before):
+        # What the images are tied for is worth the whole time of a step.
+        scope.program.seconds = self.search.options.seconds if target.tied and by_q else self.options.seconds
+        if self.plain_steps(target, scope, before):
             return True
-        if not silent and not self.is_content(before) and (self.by_places(hunt, aim) or self.is_closed(before)):
+        if not silent and not self.is_content(before) and (self.by_places(scope, target) or self.is_closed(before)):
             return True
-        if aim.tied and hunt.cut_short and not self.is_content(before):
-            hunt.program.seconds = self.search.options.seconds
-            hunt.ask_again()
-            if self.take_step(aim, 0, hunt, before):
+        if target.tied and scope.cut_short and not self.is_content(before):
+            scope.program.seconds = self.search.options.seconds
+            scope.ask_again()
+            if self.take_stage(target, 0, scope, before):
                 return True
-        return not hunt.plan.groups and any(self.search.attempt_bare(hunt, shape) for shape in aim.shapes if not shape.parity)
+        return not scope.plan.groups and any(self.search.attempt_bare(scope, shape) for shape in target.shapes if not shape.parity)
 
-    def plain_steps(self, aim: Aim, hunt: Hunt, before: int) -> bool:
-        """The trials of the shapes of an aim with nothing loosened. Where parity tells nothing at a shape, and no candidate is content, what one kind
+    def plain_steps(self, target: Target, scope: Scope, before: int) -> bool:
+        """The steps of the shapes of a target with nothing relaxed. Where parity tells nothing at a shape, and no candidate is content, what one kind
         of group needs, and parity that stays for several rows, come before the next shape, with another disk lost, of which more sets pass by few
         landmarks. Parity that stays is asked for too where a candidate of the shape is content, since of metadata in the first rows a checker is
         content without. It says whether nothing more is to be seen."""
-        for shape, following in itertools.zip_longest(aim.shapes, aim.shapes[1:]):
-            if self.search.take_step(Step((shape,), 0), hunt):
+        for shape, following in itertools.zip_longest(target.shapes, target.shapes[1:]):
+            if self.search.take_stage(Stage((shape,), 0), scope):
                 return True
             early = following is not None and not self.is_content(before)
             more = [of_kinds(shape)] * early + [delayed(shape)] * (early or self.is_content(before, shape))
-            if not shape.parity and any(self.search.take_step(step, hunt) for step in more):
+            if not shape.parity and any(self.search.take_stage(stage, scope) for stage in more):
                 return True
         return self.is_closed(before)
 
-    def take_step(self, aim: Aim, count: int, hunt: Hunt, before: int) -> bool:
-        """The trials of the shapes of an aim with so many things loosened; it says whether nothing more is to be seen."""
-        return self.search.take_step(Step(aim.shapes, count), hunt) or self.is_closed(before)
+    def take_stage(self, target: Target, count: int, scope: Scope, before: int) -> bool:
+        """The steps of the shapes of a target with so many things relaxed; it says whether nothing more is to be seen."""
+        return self.search.take_stage(Stage(target.shapes, count), scope) or self.is_closed(before)
 
     def is_closed(self, before: int) -> bool:
         """A candidate that was tested since is encrypted, and parity speaks for it."""
         return any(map(is_closed, self.since(before)))
 
     def is_content(self, before: int, shape: Shape | None = None) -> bool:
-        """A candidate that was tested since has a sign; one of a shape, where it is named."""
-        return any(it.score >= Score.CHECKED and (shape is None or it.trial.shape == shape) for it in self.since(before))
+        """A candidate that was tested since has a rating; one of a shape, where it is named."""
+        return any(it.score >= Score.CHECKED and (shape is None or it.step.shape == shape) for it in self.since(before))
 
     def since(self, before: int) -> list[Candidate]:
         """The candidates that were tested behind so many."""

@@ -1,4 +1,4 @@
-"""RAID 10 by its copies: what is asked of them, which images hold the same, and the hunts over one image of each such group."""
+"""RAID 10 by its copies: what is asked of them, which images hold the same, and the scopes over one image of each such group."""
 
 import dataclasses
 import itertools
@@ -6,22 +6,22 @@ from collections.abc import Iterable, Iterator, Sequence
 
 from ..calls.commands import Runner, quoted
 from ..calls.formats import Page, Ranked
-from ..calls.program import MOST_LINES, Copied, Listing
-from ..calls.sets import FAR, MOST_COPIES, NEAR, NEAR_2, OFFSET, Copying, read_word
+from ..calls.program import MAX_LINES, Copied, Listing
+from ..calls.sets import FAR, MAX_COPIES, NEAR, NEAR_2, OFFSET, Copying, read_word
 from ..evidence import shifts
-from ..evidence.families import CHUNKS, connected
+from ..evidence.image_groups import CHUNKS, connected
 from ..evidence.gathered import Evidence, Pairs
 from ..evidence.images import Image
-from .hunt import Hunt
+from .scope import Scope
 
 # What fails in a window of so many sectors fails in a large one; with rows that maps call unread it is so many times as many.
 SMALL_WINDOW, SMALL_TIMES = 8192, 4
 # So many ways to group the images are looked at.
-MOST_GROUPINGS = 8
+MAX_GROUPINGS = 8
 # So many members may be missing at most, and chunks are so long at most where copies do not tell them.
-MOST_MISSING, MOST_CHUNK = 3, 2048
-COPIES = range(2, MOST_COPIES + 1)
-# Of several ways to leave images out all are tried with nothing loosened before one is with something.
+MAX_MISSING, MAX_CHUNK = 3, 2048
+COPIES = range(2, MAX_COPIES + 1)
+# Of several ways to leave images out all are tried with nothing relaxed before one is with something.
 PLAIN_FIRST = (range(1), range(1, 3))
 Group = tuple[int, ...]
 
@@ -36,7 +36,7 @@ def near(count: int, alike: int = 1) -> list[Copied]:
     """What is asked where some of so many images hold the same in the same rows, the fewest missing first; `alike` is of how many of those that hold
     the same wholly most do, 1 where none does. Where that many cannot do so, as in pairs of an odd number with none missing, it comes last."""
     order = sorted(COPIES, key=lambda copies: copies != max(alike, NEAR_2.copies))
-    found = [Copied((layout,), count + missing, missing) for missing in range(MOST_MISSING + 1)
+    found = [Copied((layout,), count + missing, missing) for missing in range(MAX_MISSING + 1)
              for layout in bearing((Copying(NEAR, copies) for copies in order), count + missing, missing)]
 
     def is_odd(it: Copied) -> bool:
@@ -50,8 +50,8 @@ def moved(count: int, distance: int, evidence: Evidence) -> Iterator[Copied]:
     """What is asked where images hold the same so many sectors apart, the fewest missing first: copies of layout offset, where that is a chunk, and
     far ones, first by where the images end, and then with an end that puts them so far apart."""
     chunk, layouts = shifts.layout(distance) == OFFSET, {kind: [Copying(kind, copies) for copies in COPIES] for kind in (OFFSET, FAR)}
-    chunks = tuple(it for it in CHUNKS if it <= MOST_CHUNK and distance % it == 0)
-    for missing in range(MOST_MISSING + 1):
+    chunks = tuple(it for it in CHUNKS if it <= MAX_CHUNK and distance % it == 0)
+    for missing in range(MAX_MISSING + 1):
         members = count + missing
         if chunk and (found := bearing(layouts[OFFSET], members, missing)):
             yield Copied(found, members, missing, (distance,))
@@ -66,7 +66,7 @@ def moved(count: int, distance: int, evidence: Evidence) -> Iterator[Copied]:
 
 @dataclasses.dataclass(frozen=True)
 class Grouped:
-    """A way in which the images of a hunt are grouped, by their places there: those of a group hold the same. With how many copies there are of each
+    """A way in which the images of a scope are grouped, by their places there: those of a group hold the same. With how many copies there are of each
     chunk, and the offsets at which the groups agree."""
 
     groups: tuple[Group, ...]
@@ -74,7 +74,7 @@ class Grouped:
     offsets: tuple[int, ...]
 
     def line(self, images: Sequence[Image]) -> str:
-        """What is said of it."""
+        """Return it as one line of text."""
         said = " ".join("=".join(str(images[one].number) for one in group) if len(group) > 1 else f"image {images[group[0]].number} without a copy"
                         for group in self.groups)
         return f"  {'pairs' if self.copies == NEAR_2.copies else 'copies'} {said}: a RAID 0 of {len(self.groups)} disks"
@@ -96,7 +96,7 @@ def groupings(sets: Iterable[Ranked]) -> list[Grouped]:
         word = read_word(it.text)
         groups = (there(word.slots[first:first + word.together]) for first in range(0, len(word.slots), word.together))
         found.setdefault((frozenset(filter(None, groups)), word.together), set()).add(word.offset)
-    return [Grouped(tuple(sorted(groups)), copies, tuple(sorted(offsets))) for (groups, copies), offsets in found.items()][:MOST_GROUPINGS]
+    return [Grouped(tuple(sorted(groups)), copies, tuple(sorted(offsets))) for (groups, copies), offsets in found.items()][:MAX_GROUPINGS]
 
 
 def told(pairs: Iterable[tuple[int, int]], images: Sequence[int]) -> Grouped | None:
@@ -107,7 +107,7 @@ def told(pairs: Iterable[tuple[int, int]], images: Sequence[int]) -> Grouped | N
     copies = max(map(len, found), default=0)
     found += [(place,) for place in sorted(places.values()) if not any(place in group for group in found)]
     missing = sum(copies - len(group) for group in found)
-    return Grouped(tuple(sorted(found)), copies, ()) if copies in COPIES and len(found) > 1 and missing <= MOST_MISSING else None
+    return Grouped(tuple(sorted(found)), copies, ()) if copies in COPIES and len(found) > 1 and missing <= MAX_MISSING else None
 
 
 def without_one(pairs: Iterable[tuple[int, int]], halves: Sequence[tuple[int, int]], images: Sequence[int]) -> Iterator[Grouped]:
@@ -132,26 +132,26 @@ def is_striped(it: Ranked) -> bool:
 
 
 class Mirrors:
-    """The sets of a RAID 10 of the images of a hunt."""
+    """The sets of a RAID 10 of the images of a scope."""
 
-    def __init__(self, hunt: Hunt, commands: Runner) -> None:
-        self.hunt, self.commands = hunt, commands
+    def __init__(self, scope: Scope, commands: Runner) -> None:
+        self.scope, self.commands = scope, commands
 
     def words(self, asked: Copied, offsets: Sequence[int], window: int) -> list[str]:
         """The command that lists them."""
-        evidence = self.hunt.evidence
-        return self.hunt.program.mirror_words(asked, evidence.unread, offsets, asked.end or evidence.end, window)
+        evidence = self.scope.evidence
+        return self.scope.program.mirror_words(asked, evidence.unread, offsets, asked.end or evidence.end, window)
 
     def listing(self, asked: Copied) -> Listing:
         """The sets. What fails in a small window fails in a large one, so that is asked of the offsets that are left alone; where its time is up,
         the sets of the small window stand."""
-        program, evidence = self.hunt.program, self.hunt.evidence
+        program, evidence = self.scope.program, self.scope.evidence
         small = min(evidence.window, max(SMALL_WINDOW, SMALL_TIMES * evidence.unread))
         tried = asked.offsets or evidence.tried
         page = program.mirrors(self.words(asked, tried, small))
         if page.late:
             return self.late(page)
-        told = len(page.sets) < MOST_LINES
+        told = len(page.sets) < MAX_LINES
         offsets = sorted({read_word(it.text).offset for it in page.sets}) if told else []
         large = self.words(asked, offsets or tried, evidence.window)
         self.commands.tell(quoted(large))
@@ -164,4 +164,4 @@ class Mirrors:
 
     def late(self, page: Page, where: str = "") -> Listing:
         """What was listed before its time was up."""
-        return Listing(page.sets, page.total or 0, False, where + self.hunt.program.late_note())
+        return Listing(page.sets, page.total or 0, False, where + self.scope.program.late_note())

@@ -1,27 +1,27 @@
-"""What is tried first: few trials, each for a reason that the images themselves give, with nothing loosened."""
+"""What is tried first: few steps, each for a reason that the images themselves give, with nothing relaxed."""
 
 import dataclasses
 from collections.abc import Iterable, Iterator, Sequence
 
 from ..calls.sets import LEVELS, read_word
 from ..evidence import metadata, shifts, ties
-from ..evidence.families import COPIES, LEVEL_5, Family
-from ..evidence.gathered import MOST_WINDOW
+from ..evidence.image_groups import COPIES, LEVEL_5, ImageGroup
+from ..evidence.gathered import MAX_WINDOW
 from ..evidence.images import Image
 from ..evidence.metadata import Member
 from ..evidence.ties import Known, Told
 from ..evidence.unlike import Unlike
 from ..options import Options
 from ..units import SECTOR, listed
-from .cures import EACH_WINDOW
-from .mirrors import MOST_MISSING
+from .relaxations import EACH_WINDOW
+from .mirrors import MAX_MISSING
 from .shapes import Shape
 
 
 # So many members are missing in what may be RAID 10 before what parity ties is tried, and so many in what may be one after it.
-FEW_MISSING, MORE_MISSING = (0, 1), tuple(range(2, MOST_MISSING + 1))
+FEW_MISSING, MORE_MISSING = (0, 1), tuple(range(2, MAX_MISSING + 1))
 # So few images are left of a RAID 10 that is more than copies.
-LEAST_STRIPED = 3
+MIN_STRIPED = 3
 # Where ties leave an image out in no more than one of so many tied rows, that may be bad areas in place of an old disk.
 FEW_LEFT_OUT = 4
 
@@ -37,7 +37,7 @@ class Span:
 
 @dataclasses.dataclass(frozen=True)
 class Unsound:
-    """All images of a family, and their shape, where some rows of these may be bad: what ties leave out in few rows is no old disk then."""
+    """All images of a group, and their shape, where some rows of these may be bad: what ties leave out in few rows is no old disk then."""
 
     images: tuple[int, ...]
     shape: Shape
@@ -48,9 +48,9 @@ class Unsound:
 
 
 @dataclasses.dataclass(frozen=True)
-class Aim:
+class Target:
     """Images, by their numbers, that are searched as an array, in a part of each; the shapes that are tried, in order, and why. `asked` are operands
-    that are asked for in each trial, as far as they are known; `copied` says that RAID 10 is tried before them, `tied` that parity ties
+    that are asked for in each step, as far as they are known; `copied` says that RAID 10 is tried before them, `tied` that parity ties
     them; `begin` is a row of the array, so that its data do not begin later, None where none is known; `moved` has the offset of each image, where
     these are known and not the same; `apart` says how far apart the copies lie, where they do not lie side by side; `missing` are the numbers of
     members that may be missing where copies are asked for; `by_thousands` are the shapes at
@@ -68,7 +68,7 @@ class Aim:
     begin: int | None = None
     moved: tuple[int, ...] = ()
     apart: int | None = None
-    missing: tuple[int, ...] = tuple(range(MOST_MISSING + 1))
+    missing: tuple[int, ...] = tuple(range(MAX_MISSING + 1))
     by_thousands: tuple[Shape, ...] = ()
     unsound: Unsound | None = None
     first: int | None = None
@@ -81,29 +81,30 @@ class Aim:
         return ("mode", "each") in self.asked
 
 
-def shapes_of(family: Family) -> Iterator[Shape]:
+def shapes_of(group: ImageGroup) -> Iterator[Shape]:
     """The shapes of images that parity ties: with as many disks lost as most rows say, and then with as many as others do. Where rows are not tied
     though most are, one of the disks may be old; where the ties are too few to tell level 6 from 5, both are tried."""
-    images, level = len(family.current), family.level or ""
-    for parity in (family.parity, *family.others):
-        lost = family.lost_with(parity)
+    images, level = len(group.current), group.level or ""
+    for parity in (group.parity, *group.others):
+        lost = group.lost_with(parity)
         if lost is not None and lost <= LEVELS[level].parity:
             yield Shape(level, images + lost, lost)
-    if family.is_either:
+    if group.is_either:
         yield Shape(LEVEL_5, images + 1, 1)
-    lost = family.lost
-    if family.loose and lost is not None and lost < LEVELS[level].parity:
+    lost = group.lost
+    if group.loose and lost is not None and lost < LEVELS[level].parity:
         yield Shape(level, images + lost, lost + 1, 1)
 
 
-def unsound_of(family: Family, options: Options) -> Unsound | None:
-    """All images of a family that ties leave some of out, or leave untied, in few rows; None where they do in many, or parity tells nothing then."""
-    level = family.level or ""
-    out, lost = family.loose + sum(it.rows for it in family.old), max(0, LEVELS[level].parity - family.parity)
-    if not out or FEW_LEFT_OUT * out > family.rows or lost >= LEVELS[level].parity:
+def unsound_of(group: ImageGroup, options: Options) -> Unsound | None:
+    """All images of a group that ties leave some of out, or leave untied, in few rows; None where they do in many, or parity tells nothing
+    then."""
+    level = group.level or ""
+    out, lost = group.loose + sum(it.rows for it in group.old), max(0, LEVELS[level].parity - group.parity)
+    if not out or FEW_LEFT_OUT * out > group.rows or lost >= LEVELS[level].parity:
         return None
-    found = allowed([Shape(level, len(family.images) + lost, lost)], options)
-    return Unsound(family.images, found[0]) if found else None
+    found = allowed([Shape(level, len(group.images) + lost, lost)], options)
+    return Unsound(group.images, found[0]) if found else None
 
 
 def allowed(shapes: Iterable[Shape], options: Options) -> tuple[Shape, ...]:
@@ -112,12 +113,12 @@ def allowed(shapes: Iterable[Shape], options: Options) -> tuple[Shape, ...]:
                                and (options.members is None or it.members in options.members)))
 
 
-def aim_of(known: Known, span: Span, options: Options) -> Aim:
+def target_of(known: Known, span: Span, options: Options) -> Target:
     """What is tried of images that parity ties."""
-    family = known.family
-    why = f"{ties.named(family.images)}: {ties.lost_line(family)}"
-    return Aim(family.current, span, why, allowed(shapes_of(family), options), chunks(known.chunk), tied=True, begin=known.begin,
-               unsound=unsound_of(family, options))
+    group = known.group
+    why = f"{ties.named(group.images)}: {ties.lost_line(group)}"
+    return Target(group.current, span, why, allowed(shapes_of(group), options), chunks(known.chunk), tied=True, begin=known.begin,
+                  unsound=unsound_of(group, options))
 
 
 def chunks(chunk: int | None) -> tuple[tuple[str, str], ...]:
@@ -125,25 +126,25 @@ def chunks(chunk: int | None) -> tuple[tuple[str, str], ...]:
     return (("chunks", str(chunk)),) if chunk else ()
 
 
-def unlike_aim(found: Unlike, numbers: Sequence[int], span: Span, options: Options) -> Aim:
+def unlike_target(found: Unlike, numbers: Sequence[int], span: Span, options: Options) -> Target:
     """What is tried of images whose data begin at unlike sectors."""
     asked = (("mode", "each"), ("offsets", listed(found.offsets)), ("window", str(EACH_WINDOW)), *chunks(found.known.chunk))
-    why = f"{found.line()}: {ties.lost_line(found.known.family)}"
-    return Aim(tuple(numbers), span, why, allowed(shapes_of(found.known.family), options), asked, tied=True,
-               begin=found.known.begin, moved=found.offsets)
+    why = f"{found.line()}: {ties.lost_line(found.known.group)}"
+    return Target(tuple(numbers), span, why, allowed(shapes_of(found.known.group), options), asked, tied=True,
+                  begin=found.known.begin, moved=found.offsets)
 
 
-def guessed_aims(offsets: Sequence[int], numbers: Sequence[int], span: Span, options: Options) -> list[Aim]:
+def guessed_targets(offsets: Sequence[int], numbers: Sequence[int], span: Span, options: Options) -> list[Target]:
     """What is tried of images that hold the same at distances which agree with one beginning of each, where parity does not tie them: as many disks
     lost as a level bears."""
     asked = (("mode", "each"), ("offsets", listed(offsets)), ("window", str(EACH_WINDOW)))
     why = f"the distances between equal data on the images suggest that their data begin at sectors {', '.join(map(str, offsets))}"
     count = len(numbers)
     shapes = allowed([Shape("5", count + 1, 1), Shape("6", count + 2, 2)], options)
-    return [Aim(tuple(numbers), span, why, shapes, asked)] if shapes else []
+    return [Target(tuple(numbers), span, why, shapes, asked)] if shapes else []
 
 
-def metadata_aim(members: Sequence[Member], span: Span, options: Options) -> Aim | None:
+def metadata_target(members: Sequence[Member], span: Span, options: Options) -> Target | None:
     """What is tried of images whose metadata name an array; None where a set has no words for it, or level 10 is named, of which copies tell."""
     left_out = metadata.old(members)
     placed = [it for it in members if it not in left_out and it.slot is not None]
@@ -156,10 +157,10 @@ def metadata_aim(members: Sequence[Member], span: Span, options: Options) -> Aim
     asked += [("mode", "each"), ("window", str(EACH_WINDOW))] if len(offsets) > 1 else []
     images = tuple(sorted({it.image for it in placed}))
     shapes = allowed([Shape(level, placed[0].disks, placed[0].disks - len(images))], options) if len(images) <= placed[0].disks else ()
-    return Aim(images, span, f"metadata on {ties.named(images)} ({placed[0].source}) describe it, and may be wrong", shapes, tuple(asked))
+    return Target(images, span, f"metadata on {ties.named(images)} ({placed[0].source}) describe it, and may be wrong", shapes, tuple(asked))
 
 
-def named_aim(members: Sequence[Member], span: Span, options: Options, images: int) -> Aim | None:
+def named_target(members: Sequence[Member], span: Span, options: Options, images: int) -> Target | None:
     """Return what is tried of large images whose metadata name an array with the slot of each: just that set, before more is read than what parity is
     tested in. None where they do not, or each image has an offset of its own."""
     text = metadata.word_of(members, images)
@@ -168,99 +169,99 @@ def named_aim(members: Sequence[Member], span: Span, options: Options, images: i
         return None
     shape = Shape(COPIES if word.is_mirrored else word.level, len(word.slots), word.lost)
     is_asked = options.wants(shape.levels) and (options.members is None or shape.members in options.members)
-    there, first = tuple(sorted(word.images)), (word.offset + MOST_WINDOW) * SECTOR
+    there, first = tuple(sorted(word.images)), (word.offset + MAX_WINDOW) * SECTOR
     why = f"metadata on {ties.named(there)} ({members[0].source}) give a layout, which may be wrong; little is read to test it"
     asked = (("offsets", str(word.offset)), ("chunks", str(word.chunk)))
-    return Aim(there, span, why, (shape,), asked, first=first, word=word.text) if is_asked else None
+    return Target(there, span, why, (shape,), asked, first=first, word=word.text) if is_asked else None
 
 
-def tied(told: Told, _numbers: Sequence[int], span: Span, options: Options) -> list[Aim]:
-    """What is tried of each family that parity ties, the largest first."""
-    return [aim for it in told.known if it.family.level in LEVELS and (aim := aim_of(it, span, options)).shapes]
+def tied(told: Told, _numbers: Sequence[int], span: Span, options: Options) -> list[Target]:
+    """What is tried of each group that parity ties, the largest first."""
+    return [target for it in told.known if it.group.level in LEVELS and (target := target_of(it, span, options)).shapes]
 
 
-def copied(told: Told, numbers: Sequence[int], span: Span, options: Options) -> list[Aim]:
+def copied(told: Told, numbers: Sequence[int], span: Span, options: Options) -> list[Target]:
     """What is tried of images of which some are copies: RAID 10 of all of them."""
-    return copied_by((it for it in told.known if it.family.level == COPIES), numbers, span, options)
+    return copied_by((it for it in told.known if it.group.level == COPIES), numbers, span, options)
 
 
-def perhaps_copied(told: Told, numbers: Sequence[int], span: Span, options: Options) -> list[Aim]:
+def perhaps_copied(told: Told, numbers: Sequence[int], span: Span, options: Options) -> list[Target]:
     """What is tried where two images hold the same in fewer rows: RAID 10 of all, with few missing before anything else, since such copies are soon
     looked for, and with more."""
-    found = copied_by((it for it in told.known if it.family.may_be_copies), numbers, span, options)
-    return [dataclasses.replace(aim, missing=missing) for aim in found for missing in (FEW_MISSING, MORE_MISSING)]
+    found = copied_by((it for it in told.known if it.group.may_be_copies), numbers, span, options)
+    return [dataclasses.replace(target, missing=missing) for target in found for missing in (FEW_MISSING, MORE_MISSING)]
 
 
-def copied_by(known: Iterable[Known], numbers: Sequence[int], span: Span, options: Options) -> list[Aim]:
+def copied_by(known: Iterable[Known], numbers: Sequence[int], span: Span, options: Options) -> list[Target]:
     """RAID 10 of all images, where something is known that speaks for it."""
     found = tuple(known)
     if not found or not options.wants(COPIES):
         return []
-    return [Aim(tuple(numbers), span, "; ".join(ties.lines(Told(found, asked=True))), copied=True)]
+    return [Target(tuple(numbers), span, "; ".join(ties.lines(Told(found, asked=True))), copied=True)]
 
 
 def doubtful(told: Told) -> list[int]:
     """The images that may be none of a RAID 10 of which others are copies: one that nothing ties may be foreign, and one of three that hold the same
     a bad copy."""
-    several = sorted(image for it in told.known if it.family.level == COPIES and len(it.family.images) > 2 for image in it.family.images)
+    several = sorted(image for it in told.known if it.group.level == COPIES and len(it.group.images) > 2 for image in it.group.images)
     return [*told.alone, *several]
 
 
-def without_each(aims: Iterable[Aim], images: Sequence[int]) -> list[Aim]:
-    """These aims, with few members missing; then without one of these images, each in turn; and then with more missing."""
+def without_each(targets: Iterable[Target], images: Sequence[int]) -> list[Target]:
+    """These targets, with few members missing; then without one of these images, each in turn; and then with more missing."""
     found = []
-    for aim in aims:
-        without = [dataclasses.replace(aim, images=tuple(it for it in aim.images if it != image), missing=FEW_MISSING,
-                                       why=f"{aim.why}; image {image} may be no member or a bad copy, so it is left out")
-                   for image in images if len(aim.images) > LEAST_STRIPED]
-        few, more = (dataclasses.replace(aim, missing=missing) for missing in (FEW_MISSING, MORE_MISSING))
-        found += [few, *without, more] if without else [aim]
+    for target in targets:
+        without = [dataclasses.replace(target, images=tuple(it for it in target.images if it != image), missing=FEW_MISSING,
+                                       why=f"{target.why}; image {image} may be no member or a bad copy, so it is left out")
+                   for image in images if len(target.images) > MIN_STRIPED]
+        few, more = (dataclasses.replace(target, missing=missing) for missing in (FEW_MISSING, MORE_MISSING))
+        found += [few, *without, more] if without else [target]
     return found
 
 
-def halves_aims(told: Told, images: Sequence[Image], span: Span, options: Options) -> list[Aim]:
+def halves_targets(told: Told, images: Sequence[Image], span: Span, options: Options) -> list[Target]:
     """What is tried where two images hold the same in most rows and not in all, beside others: RAID 10 without each of the two in turn, since one
     may be an older state of the other, as a stale copy is, or a disk that was imaged twice."""
     same = {frozenset((image.number, image.like)) for image in images if image.like is not None}
-    known = [it.family for it in told.known if it.family.level == COPIES and len(it.family.images) == 2]
+    known = [it.group for it in told.known if it.group.level == COPIES and len(it.group.images) == 2]
     halves = tuple((one, other) for one, other in (it.images for it in known) if frozenset((one, other)) not in same)
-    if not halves or len(images) <= LEAST_STRIPED or span.partition or not options.wants(COPIES):
+    if not halves or len(images) <= MIN_STRIPED or span.partition or not options.wants(COPIES):
         return []
     said = "; ".join(f"images {one} and {other} hold the same in most rows: one may be an older state of the other" for one, other in halves)
-    return [Aim(tuple(image.number for image in images), span, f"{said}, so each is left out in turn", copied=True, halves=halves)]
+    return [Target(tuple(image.number for image in images), span, f"{said}, so each is left out in turn", copied=True, halves=halves)]
 
 
-def apart_aim(distance: int, numbers: Sequence[int], span: Span) -> Aim:
+def apart_target(distance: int, numbers: Sequence[int], span: Span) -> Target:
     """What is tried of images that hold the same so many sectors apart: RAID 10 of all of them."""
     why = (f"much of the data is on another image too, {distance} sectors apart, as in RAID 10 of layout {shifts.layout(distance)}")
-    return Aim(tuple(numbers), span, why, copied=True, apart=distance)
+    return Target(tuple(numbers), span, why, copied=True, apart=distance)
 
 
-def untied(told: Told, numbers: Sequence[int], span: Span, options: Options) -> list[Aim]:
+def untied(told: Told, numbers: Sequence[int], span: Span, options: Options) -> list[Target]:
     """What is tried of images that nothing ties: RAID 0, and arrays that have lost as many disks as their level bears."""
     shapes = () if told.known else silent(told, numbers, options)
     why = f"{ties.named(numbers)}: parity matches nothing, as with RAID 0 or the maximum of missing disks"
-    return [Aim(tuple(numbers), span, why, shapes)] if shapes else []
+    return [Target(tuple(numbers), span, why, shapes)] if shapes else []
 
 
 def silent(told: Told, numbers: Sequence[int], options: Options) -> tuple[Shape, ...]:
     """The shapes at which parity tells nothing of images that nothing ties. That some hold the same in few rows ties none: parity is what another
     disk holds where the others are zeros."""
     count = len(numbers)
-    if not told.asked or any(it.family.level != COPIES or it.family.copies for it in told.known):
+    if not told.asked or any(it.group.level != COPIES or it.group.copies for it in told.known):
         return ()
     return allowed([Shape("0", count), Shape("5", count + 1, 1), Shape("6", count + 2, 2)], options)
 
 
-def with_thousands(aims: Sequence[Aim], untied_shapes: tuple[Shape, ...]) -> list[Aim]:
-    """These aims, of which landmarks by the thousand too are asked, at the shapes at which parity tells nothing: of images that are tied as where as
-    many disks are lost as the level bears, and, at these shapes, of the first aim over images that nothing ties. None where each image has an offset
-    of its own."""
-    first = next((aim for aim in aims if not aim.tied and not aim.is_each), None)
+def with_thousands(targets: Sequence[Target], untied_shapes: tuple[Shape, ...]) -> list[Target]:
+    """These targets, of which landmarks by the thousand too are asked, at the shapes at which parity tells nothing: of images that are tied as where
+    as many disks are lost as the level bears, and, at these shapes, of the first target over images that nothing ties. None where each image has an
+    offset of its own."""
+    first = next((target for target in targets if not target.tied and not target.is_each), None)
 
-    def asked(aim: Aim) -> tuple[Shape, ...]:
-        """The shapes at which an aim asks them."""
-        if aim.tied and not aim.is_each and not aim.shapes[0].parity:
-            return tuple(shape for shape in aim.shapes if not shape.parity)
-        return untied_shapes if aim is first else ()
-    return [dataclasses.replace(aim, by_thousands=asked(aim)) for aim in aims]
+    def asked(target: Target) -> tuple[Shape, ...]:
+        """The shapes at which a target asks them."""
+        if target.tied and not target.is_each and not target.shapes[0].parity:
+            return tuple(shape for shape in target.shapes if not shape.parity)
+        return untied_shapes if target is first else ()
+    return [dataclasses.replace(target, by_thousands=asked(target)) for target in targets]

@@ -11,17 +11,17 @@ from ..errors import Refused
 from ..evidence import hints, readoff
 from ..evidence.readoff import NEAR_BEST, Fit, Form, Proposal, Sought, Vote
 from ..units import listed
-from . import cures, thousands
-from .cures import Family
-from .hunt import Hunt
+from . import relaxations, thousands
+from .relaxations import RelaxationKind
+from .scope import Scope
 from .shapes import Shape
-from .trials import Trial
+from .steps import Step
 
 if TYPE_CHECKING:
     from .search import Search
 
 # So many queries are made at most.
-MOST_QUERIES = 4
+MAX_QUERIES = 4
 # An order of Q for a set that has none in landmarks.
 ANY_ORDER = {"0": "none", "5": "none", "6": "after-q"}
 
@@ -58,13 +58,13 @@ def least(fit: Fit) -> int:
 
 def votes_of(plan: Plan, kinds: Sequence[str]) -> list[Vote]:
     """The votes of the landmarks of these kinds, of groups with enough of them: one for each place at which a landmark may lie."""
-    groups = [group for group in plan.groups if group.kind in kinds and len(group.marks) >= thousands.LEAST_MARKS]
+    groups = [group for group in plan.groups if group.kind in kinds and len(group.marks) >= thousands.MIN_MARKS]
     return [Vote(group.place, mark.image, mark.sector, place) for group in groups for mark in group.marks for place in dict.fromkeys(mark.numbers)]
 
 
-def sought_of(hunt: Hunt, plan: Plan, shapes: Iterable[Shape]) -> Sought:
+def sought_of(scope: Scope, plan: Plan, shapes: Iterable[Shape]) -> Sought:
     """What may be proposed: the shapes, and the offsets and origins that are known."""
-    evidence = hunt.evidence
+    evidence = scope.evidence
     offsets = {*evidence.tried, *evidence.offset_values, *(evidence.start + it for it in hints.MORE_OFFSETS)}
     forms = tuple(dict.fromkeys(Form(level, shape.members, shape.foreign) for shape in shapes for level in shape.levels.split(",")))
     return Sought(forms, tuple(plan.numbers("chunks")), tuple(sorted(it for it in offsets if it < evidence.end)), frozenset(plan.numbers("origins")))
@@ -77,46 +77,46 @@ def queries(found: Sequence[Proposal], shapes: Sequence[Shape], origins: frozens
     groups = dict[tuple[Form, int, int], list[Proposal]]()
     for it in known or likely:
         groups.setdefault((it.form, it.chunk, it.delay), []).append(it)
-    for (form, _, _), those in list(groups.items())[:MOST_QUERIES]:
+    for (form, _, _), those in list(groups.items())[:MAX_QUERIES]:
         shape = next(it for it in shapes if form.level in it.levels.split(",") and (it.members, it.foreign) == (form.members, form.foreign))
         yield Query(dataclasses.replace(shape, levels=form.level), tuple(those))
 
 
-def line(hunt: Hunt, it: Proposal, plan: Plan) -> str:
+def line(scope: Scope, it: Proposal, plan: Plan) -> str:
     """What is said of a proposal."""
     fit, form = it.fits[0], it.form
     marks = thousands.ALL[next(group.kind for group in plan.groups if group.place == fit.group)]
     text = made(form.level, staying(it.pattern, it.delay), ANY_ORDER[form.level], it.chunk, (it.offset,), it.slots).text
     following = f", the next layout {it.following}" if it.following else ""
-    return f"read off {marks.name}s of {marks.system}: {fit.fits} of {fit.votes} match {hunt.word(text).text}{following}"
+    return f"read off {marks.name}s of {marks.system}: {fit.fits} of {fit.votes} match {scope.word(text).text}{following}"
 
 
-def attempt(search: "Search", hunt: Hunt, shapes: Sequence[Shape], kinds: Sequence[str]) -> bool:
-    """The trials of the sets that landmarks of these kinds propose; it says whether the search is at its end."""
+def attempt(search: "Search", scope: Scope, shapes: Sequence[Shape], kinds: Sequence[str]) -> bool:
+    """The steps of the sets that landmarks of these kinds propose; it says whether the search is at its end."""
     try:
-        plan = thousands.asked_of(hunt, shapes[0], kinds)
+        plan = thousands.asked_of(scope, shapes[0], kinds)
         search.report.bar.show("reads the layout off landmarks")
-        sought = sought_of(hunt, plan, shapes)
+        sought = sought_of(scope, plan, shapes)
         found = readoff.read(votes_of(plan, kinds), sought)
-        return any(asked(search, hunt, query, kinds) for query in queries(found, shapes, sought.origins))
+        return any(asked(search, scope, query, kinds) for query in queries(found, shapes, sought.origins))
     except Refused as error:
         search.say_refused(error)
         return False
 
 
-def asked(search: "Search", hunt: Hunt, query: Query, kinds: Sequence[str]) -> bool:
-    """The trial of a query, if few sets pass; it says whether the search is at its end."""
-    over = thousands.asked_of(hunt, query.shape, kinds)
-    listing = hunt.program.listing(query.plan(over))
-    before, search.why = search.why, line(hunt, query.first, over)
+def asked(search: "Search", scope: Scope, query: Query, kinds: Sequence[str]) -> bool:
+    """The step of a query, if few sets pass; it says whether the search is at its end."""
+    over = thousands.asked_of(scope, query.shape, kinds)
+    listing = scope.program.listing(query.plan(over))
+    before, search.why = search.why, line(scope, query.first, over)
     fit = query.first.fits[0]
     search.report.say("reason", f"  {search.why}", fits=fit.fits, marks=fit.votes, following=query.first.following, why=search.why)
     try:
-        if not listing.whole or len(listing.sets) > thousands.MOST_SETS:
+        if not listing.whole or len(listing.sets) > thousands.MAX_SETS:
             return False
-        others = [group.place for group in hunt.plan.groups]
-        alone = cures.told("only the landmarks that it is read off", Family.ALONE, others)
-        trial = search.say_trial(hunt, Trial(query.shape, (alone,), hunt.asking.request(query.shape)), listing)
-        return search.take(hunt, trial, listing.sets, lambda it: (read_word(it.text), hunt.word(it.text)))
+        others = [group.place for group in scope.plan.groups]
+        alone = relaxations.told("only the landmarks that it is read off", RelaxationKind.ALONE, others)
+        step = search.say_step(scope, Step(query.shape, (alone,), scope.asking.request(query.shape)), listing)
+        return search.take(scope, step, listing.sets, lambda it: (read_word(it.text), scope.word(it.text)))
     finally:
         search.why = before

@@ -14,12 +14,12 @@ from ..calls.surveys import Request, Surveys
 from ..errors import Refused
 from ..halving import halved
 from ..units import listed
-from .cures import Cure, Family, loosened
-from .plans import LEAST_BAD, Asking
+from .relaxations import Relaxation, RelaxationKind, relaxed
+from .plans import MIN_BAD, Asking
 from .shapes import Shape
 
 # Of so many rows, of all sets together, it is asked whether they are bad, where many may be, and so many times as many as before each time.
-MOST_ASKED, STEPS = 300_000_000, 4
+MAX_ASKED, STEPS = 300_000_000, 4
 
 
 # Who is told what ran out of its time, and of how many seconds.
@@ -41,7 +41,7 @@ class First:
 
 class Questions:
     """Questions about the shapes of some images. `late` is told of each that ran out of its time, and how many seconds that was; `tied` says that
-    parity ties the images, so that it surely allows a set where nothing is loosened, and this is not asked."""
+    parity ties the images, so that it surely allows a set where nothing is relaxed, and this is not asked."""
 
     def __init__(self, program: Program, surveys: Surveys, asking: Asking, late: Late, tied: bool = False) -> None:
         self.program, self.surveys, self.asking, self.late, self.tied = program, surveys, asking, late, tied
@@ -50,7 +50,7 @@ class Questions:
 
     @property
     def seconds(self) -> int:
-        """How long a question may take: a part of the time of a trial."""
+        """How long a question may take: a part of the time of a step."""
         return min(self.program.seconds, self.asking.shapes.options.question_seconds)
 
     def first(self, text: str, what: str) -> First:
@@ -92,8 +92,8 @@ class Questions:
         """The sets of a plan that pass with some bad rows: few of these at first, and then four times as many, up to the plan's, until some set
         passes. The more sets landmarks allow, the fewer rows are asked for, so that no listing is long."""
         unread = self.asking.evidence.unread
-        most = min(int(plan.values["badrows"]), max(LEAST_BAD, MOST_ASKED // self.allowed_by_landmarks(plan)) + unread)
-        step = LEAST_BAD
+        most = min(int(plan.values["badrows"]), max(MIN_BAD, MAX_ASKED // self.allowed_by_landmarks(plan)) + unread)
+        step = MIN_BAD
         while True:
             rows = min(most, unread + step)
             listing = self.program.listing(plan.having(badrows=rows))
@@ -147,19 +147,19 @@ class Questions:
         told = set(self.asking.evidence.offset_values) & set(request.numbers("offsets"))
         return first is None or any(self.far_before(offset, first, shape) for offset in told)
 
-    def needing(self, shape: Shape, chosen: Sequence[Cure], asked: Request) -> list[int]:
-        """The offsets of a request that need these things loosened: parity allows no set there, nor at a smaller offset, with less. What it allows
+    def needing(self, shape: Shape, chosen: Sequence[Relaxation], asked: Request) -> list[int]:
+        """The offsets of a request that need these things relaxed: parity allows no set there, nor at a smaller offset, with less. What it allows
         behind damage says nothing of the offsets before, but that the images share an offset. None where that leaves no offset of the hints. Half the
         window counts for nothing here: what stands at the end of the disks is passed over by large chunks as well, which parity alone then allows."""
         offsets = asked.numbers("offsets")
-        free = [cure for cure in chosen if cure.family is not Family.WINDOW]
+        free = [relaxation for relaxation in chosen if relaxation.relaxes is not RelaxationKind.WINDOW]
         request = self.asking.request(shape)
         less = [part for count in range(len(chosen)) for part in itertools.combinations(chosen, count) if list(part) != free]
         if self.asking.shapes.speak_for(shape):
-            less = [part for part in less if not any(cure.family is Family.BAD_ROWS for cure in part)]
+            less = [part for part in less if not any(relaxation.relaxes is RelaxationKind.BAD_ROWS for relaxation in part)]
         try:
             for part in less:
-                first = self.first_allowed(loosened(request, part), shape)
+                first = self.first_allowed(relaxed(request, part), shape)
                 offsets = [offset for offset in offsets if first is None or self.far_before(offset, first, shape)]
                 told = set(self.asking.evidence.offset_values) & set(offsets)
                 if first is not None and (not told or asked.is_each):

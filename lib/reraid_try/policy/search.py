@@ -1,4 +1,4 @@
-"""The way from the images to the table: looks, surveys, trials, tests, and where it ends."""
+"""The way from the images to the table: looks, surveys, steps, tests, and where it ends."""
 
 import contextlib
 import dataclasses
@@ -21,7 +21,7 @@ from ..checks.volumes import Room
 from ..errors import OutsideError, Refused, Stopped, said
 from ..evidence import amounts, fills
 from ..evidence import images as seen
-from ..evidence.families import Reshape
+from ..evidence.image_groups import Reshape
 from ..evidence.images import Image
 from ..evidence.surveying import Shared
 from ..evidence.ties import Ties, Told
@@ -29,35 +29,35 @@ from ..options import LEVELS, Options
 from ..report import words
 from ..report.diagnosis import Diagnosis
 from ..report.report import Report
-from ..units import ALL, KIB, MIB, MOST_IMAGES, SECTOR, counted, size_said
-from . import cures
+from ..units import ALL, KIB, MIB, MAX_IMAGES, SECTOR, counted, size_said
+from . import relaxations
 from .answers import Answer, Answers, Kind
-from .cures import Cure, Family
+from .relaxations import Relaxation, RelaxationKind
 from .evident import Evident
-from .hunt import Hunt
+from .scope import Scope
 from .mirrors import Grouped, Mirrors, groupings, is_striped
 from .plans import FIRST_ROWS
 from .shapes import Shape, Tiers
-from .steps import Step, delayed
-from .trials import Trial
+from .stages import Stage, delayed
+from .steps import Step
 
 # Images of at most so many times what is read first are read wholly where nothing was found.
 SMALL_TIMES = 4
-# Pairs of mirrors are searched with up to so many things loosened.
-MOST_PAIRED = 2
-# In so many shapes three things are loosened, whatever they are.
-MOST_THRICE = 2
+# Pairs of mirrors are searched with up to so many things relaxed.
+MAX_PAIRED = 2
+# In so many shapes three things are relaxed, whatever they are.
+MAX_THRICE = 2
 
 
 class Search:
-    """One run: what is seen, what is tried, and the candidates. `hunt` is that over all images, `hunts` are all that were begun, `shapes_tried` of
-    which shapes there were trials, `stale` the images that ties name as old, `reshapes` where ties change for good, `said_fills` the lines on texts
-    in images, `why` for what reason the next trials are; `solved` says that a candidate says enough of what evidence gave a reason for, so that there
-    is no hunt over all images; `answer` says what the images are if they are no array; `memory` keeps what is found in volumes, where another run may
+    """One run: what is seen, what is tried, and the candidates. `scope` is that over all images, `scopes` are all that were begun, `shapes_tried` of
+    which shapes there were steps, `stale` the images that ties name as old, `reshapes` where ties change for good, `said_fills` the lines on texts in
+    images, `why` for what reason the next steps are; `solved` says that a candidate says enough of what evidence gave a reason for, so that there is
+    no scope over all images; `answer` says what the images are if they are no array; `memory` keeps what is found in volumes, where another run may
     go on with it."""
 
     tests: Tests
-    hunt: Hunt
+    scope: Scope
 
     def __init__(self, options: Options, commands: Runner, report: Report, room: Room, memory: Memory | None = None) -> None:
         self.options, self.commands, self.report, self.room, self.memory = options, commands, report, room, memory
@@ -65,7 +65,7 @@ class Search:
         self.tested: list[Candidate] = []
         self.known: set[str] = set()
         self.number, self.said_on, self.was_late, self.solved = 0, False, False, False
-        self.hunts: list[Hunt] = []
+        self.scopes: list[Scope] = []
         self.surveys = Shared()
         self.shapes_tried: set[str] = set()
         self.stale: set[int] = set()
@@ -103,7 +103,7 @@ class Search:
             self.report.say("read", amounts.in_all(read, len(self.images)), bytes=read)
 
     def say_reshapes(self) -> None:
-        """Says once more where ties change for good, where nothing has a sign."""
+        """Says once more where ties change for good, where nothing has a rating."""
         for it in self.reshapes if self.best() < Score.CHECKED else ():
             self.report.say("reshape", it.short(), last=it.last, first=it.sector, before=sorted(it.before), after=sorted(it.after))
 
@@ -111,21 +111,21 @@ class Search:
         """Asks of the candidates that are said in words in which rows parity holds, and which images in no slot are but old or damaged."""
         names = words.short([image.called for image in self.images])
         for _, it in self.best_told():
-            rows = Rows(it.hunt)
+            rows = Rows(it.scope)
             it.rows = rows.whole(it)
-            there = {image.number for image in it.hunt.evidence.images}
+            there = {image.number for image in it.scope.evidence.images}
             it.old = tuple(old.text(names) for old in rows.old(it, [self.images[number] for number in sorted(self.stale - there)]))
 
     def best_told(self) -> list[tuple[int, Candidate]]:
         """The candidates, with their numbers, of which more is told: the best, and those that are encrypted."""
         order = kin.in_order(self.tested, self.images)
-        best = words.best(order)[:words.MOST_TOLD]
-        return best + [pair for pair in words.encrypted(order) if pair not in best][:words.MOST_TOLD]
+        best = words.best(order)[:words.MAX_TOLD]
+        return best + [pair for pair in words.encrypted(order) if pair not in best][:words.MAX_TOLD]
 
     def diagnose(self, show: Callable[[Diagnosis], None]) -> None:
-        """Prints of the nearest sets of the hunt over all images, as far as nothing is refused."""
+        """Prints of the nearest sets of the scope over all images, as far as nothing is refused."""
         try:
-            show(Diagnosis(self.hunt, self.report, self.options.seconds, self.options.jobs))
+            show(Diagnosis(self.scope, self.report, self.options.seconds, self.options.jobs))
         except Refused as error:
             self.say_refused(error)
 
@@ -154,9 +154,9 @@ class Search:
         if solved:
             return
         self.report.bar.show("surveys the images")
-        self.hunt = evident.hunt()
-        self.say_evidence(self.hunt)
-        if self.hunt.plan.groups or not self.may_read_all():
+        self.scope = evident.scope()
+        self.say_evidence(self.scope)
+        if self.scope.plan.groups or not self.may_read_all():
             self.try_all()
 
     def tests_of(self) -> Tests:
@@ -194,7 +194,7 @@ class Search:
         return self.asked_ties
 
     def is_hopeless(self, told: Told) -> bool:
-        """More disks are missing than any level bears, or the images are encrypted and parity tells nothing: nothing is loosened then."""
+        """More disks are missing than any level bears, or the images are encrypted and parity tells nothing: nothing is relaxed then."""
         return self.late_answer(told) is not None
 
     def is_closed(self, told: Told) -> bool:
@@ -253,159 +253,160 @@ class Search:
                 self.said_fills.add(it.line())
                 self.report.say("fill", it.line(), **it.fields())
 
-    def say_evidence(self, hunt: Hunt) -> None:
-        """The landmarks and the hints of a hunt."""
-        self.hunts.append(hunt)
-        for group in hunt.plan.groups:
+    def say_evidence(self, scope: Scope) -> None:
+        """The landmarks and the hints of a scope."""
+        self.scopes.append(scope)
+        for group in scope.plan.groups:
             first, last = (group.marks[0], group.marks[-1]) if group.marks else (None, None)
             where = f": sector {first.sector} of image {first.image}" if first else ""
             where += f" to {last.sector} of image {last.image}" if last and last != first else ""
             self.report.say("group", f"{group.name()}{where}", group=group.place, kind=group.kind, marks=len(group.marks))
-        if not hunt.plan.groups:
+        if not scope.plan.groups:
             self.report.say("group", "no landmarks: only parity rules out layouts")
-        for hint in hunt.evidence.said:
+        for hint in scope.evidence.said:
             self.report.say("hint", hint.line(), what=hint.what.value, value=hint.value, source=hint.source.value, why=hint.why)
 
     def try_all(self) -> None:
-        """All trials, in order, until the volume of a candidate says enough for itself."""
-        if not self.first_trials() and not self.further_trials() and self.best() < Score.KNOWN:
+        """All steps, in order, until the volume of a candidate says enough for itself."""
+        if not self.first_steps() and not self.further_steps() and self.best() < Score.KNOWN:
             tested = {it.word.text for it in self.tested}
             self.tests.put_off = list({it.word.text: it for it in reversed(self.tests.put_off) if it.word.text not in tested}.values())
             self.keep(self.looked_at(self.tests.put_off, self.tests.test_late))
-        if self.hunt.passed_over:
-            self.commands.note(f"# skipped {counted(self.hunt.passed_over, 'step')}: landmarks by themselves, or parity by itself, allow no layout")
+        if self.scope.passed_over:
+            self.commands.note(f"# skipped {counted(self.scope.passed_over, 'step')}: landmarks by themselves, or parity by itself, allow no layout")
 
-    def first_trials(self) -> bool:
+    def first_steps(self) -> bool:
         """What is plain, once more where it ran out of its time, and with parity that stays for several rows; then what the hints say, with up to
-        three things loosened where parity tells something, what parity tells of with up to two that are soon told, and the rest with up to one. It
+        three things relaxed where parity tells something, what parity tells of with up to two that are soon told, and the rest with up to one. It
         says whether the search is at its end."""
-        tiers = self.hunt.shapes.tiers()
+        tiers = self.scope.shapes.tiers()
         hinted, told = tiers.hinted, tiers.told
-        if self.before_damage(hinted + told) or self.plain_trials(tiers):
+        if self.before_damage(hinted + told) or self.plain_steps(tiers):
             return True
-        if self.best() < Score.CHECKED and (self.plain_again(tiers) or self.delayed_trials(tiers)):
+        if self.best() < Score.CHECKED and (self.plain_again(tiers) or self.delayed_steps(tiers)):
             return True
         telling = tuple(it for it in hinted if it.parity)
-        steps = [Step(hinted, 1), Step(hinted, 2), Step(telling, 3), Step(told, 1, quick=True), Step(told, 2, quick=True)]
-        for step in steps:
-            if self.take_step(step) or self.best() >= Score.CHECKED:
+        stages = [Stage(hinted, 1), Stage(hinted, 2), Stage(telling, 3), Stage(told, 1, quick=True), Stage(told, 2, quick=True)]
+        for stage in stages:
+            if self.take_stage(stage) or self.best() >= Score.CHECKED:
                 return True
         if self.best() < Score.KNOWN:
             self.diagnose(Diagnosis.show_on_the_way)
-        if self.options.wants("10") and not self.lost_early and self.near_mirrors(self.hunt, 1):
+        if self.options.wants("10") and not self.lost_early and self.near_mirrors(self.scope, 1):
             return True
-        return any(self.take_step(step) or self.best() >= Score.CHECKED for step in (Step(tiers.rest, 0), Step(told + tiers.rest, 1)))
+        return any(self.take_stage(stage) or self.best() >= Score.CHECKED for stage in (Stage(tiers.rest, 0), Stage(told + tiers.rest, 1)))
 
     @property
     def lost_early(self) -> bool:
         """RAID 10 with a disk lost is looked for early: the images are of an odd number."""
         return len(self.images) % 2 == 1
 
-    def plain_trials(self, tiers: Tiers) -> bool:
-        """Nothing loosened: what the hints say, what parity tells of, the rest where none of these is content, and RAID 10, which comes first where
-        images are the same. Each trial takes no longer than a question. It says whether the search is at its end."""
-        exact = tuple(shape for shape in self.hunt.shapes.exact() if shape in tiers.told)
+    def plain_steps(self, tiers: Tiers) -> bool:
+        """Nothing relaxed: what the hints say, what parity tells of, the rest where none of these is content, and RAID 10, which comes first where
+        images are the same. Each step takes no longer than a question. It says whether the search is at its end."""
+        exact = tuple(shape for shape in self.scope.shapes.exact() if shape in tiers.told)
         alike = any(image.like is not None for image in self.images)
         with self.in_short():
-            if alike and self.plain_mirrors() or any(map(self.take_step, [Step(tiers.hinted, 0), Step(exact, 0), Step(tiers.told, 0, quick=True)])):
+            first = [Stage(tiers.hinted, 0), Stage(exact, 0), Stage(tiers.told, 0, quick=True)]
+            if alike and self.plain_mirrors() or any(map(self.take_stage, first)):
                 return True
-            return self.best() < Score.CHECKED and (self.take_step(Step(tiers.rest, 0)) or not alike and self.plain_mirrors())
+            return self.best() < Score.CHECKED and (self.take_stage(Stage(tiers.rest, 0)) or not alike and self.plain_mirrors())
 
-    def delayed_trials(self, tiers: Tiers) -> bool:
-        """Parity that stays for several rows, nothing else loosened, in the same order, until a candidate is content; each trial takes no longer than
+    def delayed_steps(self, tiers: Tiers) -> bool:
+        """Parity that stays for several rows, nothing else relaxed, in the same order, until a candidate is content; each step takes no longer than
         a question. It says whether the search is at its end."""
         with self.in_short():
-            return any(self.best() < Score.CHECKED and self.take_step(delayed(shape)) for shape in tiers.all)
+            return any(self.best() < Score.CHECKED and self.take_stage(delayed(shape)) for shape in tiers.all)
 
     @contextlib.contextmanager
     def in_short(self) -> Iterator[None]:
-        """Meanwhile a trial takes no longer than a question."""
-        seconds, self.hunt.program.seconds = self.hunt.program.seconds, self.options.question_seconds
+        """Meanwhile a step takes no longer than a question."""
+        seconds, self.scope.program.seconds = self.scope.program.seconds, self.options.question_seconds
         try:
             yield
         finally:
-            self.hunt.program.seconds = seconds
+            self.scope.program.seconds = seconds
 
     def plain_again(self, tiers: Tiers) -> bool:
-        """What hints say and what parity tells of, nothing loosened, where its time was up, in the whole time of a trial; it says whether the search
+        """What hints say and what parity tells of, nothing relaxed, where its time was up, in the whole time of a step; it says whether the search
         is at its end."""
-        self.hunt.ask_again()
-        return any(map(self.take_step, [Step(tiers.hinted, 0), Step(tiers.told, 0, quick=True)]))
+        self.scope.ask_again()
+        return any(map(self.take_stage, [Stage(tiers.hinted, 0), Stage(tiers.told, 0, quick=True)]))
 
     def plain_mirrors(self) -> bool:
         """RAID 10 with two copies side by side, of an odd number of images with one disk lost too; it says whether the search is at its end."""
         lost = [0, 1] if self.lost_early else [0]
-        return self.options.wants("10") and any(self.near_mirrors(self.hunt, missing) for missing in lost)
+        return self.options.wants("10") and any(self.near_mirrors(self.scope, missing) for missing in lost)
 
     def before_damage(self, shapes: Iterable[Shape]) -> bool:
         """Where maps tell of bad rows, some may be bad that no map tells of: the first rows alone, none of them bad, with all groups of landmarks
         and then without each. Such sets are tested as others are, over all rows. It says whether the search is at its end."""
-        if not self.hunt.evidence.unread or not self.hunt.plan.groups:
+        if not self.scope.evidence.unread or not self.scope.plan.groups:
             return False
         telling = [shape for shape in shapes if shape.parity]
-        first = cures.told(f"only the first {FIRST_ROWS} rows", Family.FIRST_ROWS)
-        ways: list[tuple[Cure, ...]] = [(), *((cure,) for cure in cures.group_cures(self.hunt.plan, True))]
+        first = relaxations.told(f"only the first {FIRST_ROWS} rows", RelaxationKind.FIRST_ROWS)
+        ways: list[tuple[Relaxation, ...]] = [(), *((relaxation,) for relaxation in relaxations.group_relaxations(self.scope.plan, True))]
         for chosen in ways:
             for shape in telling:
-                few, all_rows = (cures.loosened(request, chosen) for request in (self.hunt.asking.first_rows(shape), self.hunt.asking.request(shape)))
-                if self.attempt(self.hunt, shape, (first, *chosen), few, tested_by=all_rows):
+                few, all_rows = (relaxations.relaxed(it, chosen) for it in (self.scope.asking.first_rows(shape), self.scope.asking.request(shape)))
+                if self.attempt(self.scope, shape, (first, *chosen), few, tested_by=all_rows):
                     return True
         return False
 
-    def further_trials(self) -> bool:
-        """With two and three things loosened: what parity tells of first, and then all else with two."""
-        tiers = self.hunt.shapes.tiers()
-        steps = [Step(tiers.told, 2), Step(tiers.told, 3), Step(tiers.rest, 2), Step(tiers.all, 2, every=True),
-                 Step(tiers.all[:MOST_THRICE], 3, every=True)]
-        return any(self.best() >= Score.KNOWN or self.take_step(step) for step in steps)
+    def further_steps(self) -> bool:
+        """With two and three things relaxed: what parity tells of first, and then all else with two."""
+        tiers = self.scope.shapes.tiers()
+        stages = [Stage(tiers.told, 2), Stage(tiers.told, 3), Stage(tiers.rest, 2), Stage(tiers.all, 2, every=True),
+                  Stage(tiers.all[:MAX_THRICE], 3, every=True)]
+        return any(self.best() >= Score.KNOWN or self.take_stage(stage) for stage in stages)
 
     def without_landmarks(self) -> None:
         """What is left where nothing was found: all sets that parity allows; where parity tells nothing, without landmarks alone."""
-        for shape in self.hunt.shapes.tiers().all:
-            if (shape.parity or not self.hunt.plan.groups) and self.attempt_bare(self.hunt, shape):
+        for shape in self.scope.shapes.tiers().all:
+            if (shape.parity or not self.scope.plan.groups) and self.attempt_bare(self.scope, shape):
                 return
 
     def best(self) -> Score:
         """How much speaks for the best candidate so far."""
         return max((it.score for it in self.tested), default=Score.NOTHING)
 
-    def take_step(self, step: Step, hunt: Hunt | None = None) -> bool:
-        """The trials of a step; it says whether the search is at its end."""
-        over = hunt or self.hunt
-        return any(self.attempt(over, shape, chosen, request) for shape in step.shapes
-                   for chosen, request in over.ways(shape, step))
+    def take_stage(self, stage: Stage, scope: Scope | None = None) -> bool:
+        """The steps of a stage; it says whether the search is at its end."""
+        over = scope or self.scope
+        return any(self.attempt(over, shape, chosen, request) for shape in stage.shapes
+                   for chosen, request in over.ways(shape, stage))
 
-    def attempt_bare(self, hunt: Hunt, shape: Shape) -> bool:
-        """The trial with all groups left out."""
-        return self.attempt(hunt, shape, (cures.bare(hunt.plan),), hunt.asking.bare(shape), last=True)
+    def attempt_bare(self, scope: Scope, shape: Shape) -> bool:
+        """The step with all groups left out."""
+        return self.attempt(scope, shape, (relaxations.bare(scope.plan),), scope.asking.bare(shape), last=True)
 
-    def attempt(self, hunt: Hunt, shape: Shape, chosen: tuple[Cure, ...], request: Request, last: bool = False,
+    def attempt(self, scope: Scope, shape: Shape, chosen: tuple[Relaxation, ...], request: Request, last: bool = False,
                 tested_by: Request | None = None) -> bool:
-        """One trial; it says whether a candidate is clean and whole. `tested_by` is the request by which its sets are tested, where that is
+        """One step; it says whether a candidate is clean and whole. `tested_by` is the request by which its sets are tested, where that is
         another."""
         self.why_on()
-        trial = Trial(shape, chosen, request)
-        self.report.doing = f"{trial.line()}: "
+        step = Step(shape, chosen, request)
+        self.report.doing = f"{step.line()}: "
         self.report.bar.show(self.report.doing)
         try:
-            plan = hunt.to_list(shape, request, last)
+            plan = scope.to_list(shape, request, last)
             if plan is None:
                 return False
-            if not last and not hunt.may_list(plan, shape):
+            if not last and not scope.may_list(plan, shape):
                 if self.options.show:
-                    self.report.say("passed over", f"skipped: {trial.line()}", loosened=trial.loosened, shape=shape.line())
+                    self.report.say("passed over", f"skipped: {step.line()}", loosened=step.relaxed, shape=shape.line())
                 return False
-            listing = hunt.listing(shape, request, plan)
+            listing = scope.listing(shape, request, plan)
         except Refused as error:
             self.say_refused(error)
             return False
         if listing.bad_rows is not None:
             named = f"badrows {listing.bad_rows}"
-            chosen = tuple(dataclasses.replace(cure, name=named) if cure.family is Family.BAD_ROWS else cure for cure in chosen)
+            chosen = tuple(dataclasses.replace(it, name=named) if it.relaxes is RelaxationKind.BAD_ROWS else it for it in chosen)
             request = request.having(badrows=listing.bad_rows)
-        told = self.say_trial(hunt, Trial(shape, chosen, request), listing)
+        told = self.say_step(scope, Step(shape, chosen, request), listing)
         told = dataclasses.replace(told, request=tested_by or request)
-        return self.take(hunt, told, listing.sets, lambda it: (read_word(it.text), hunt.word(it.text)))
+        return self.take(scope, told, listing.sets, lambda it: (read_word(it.text), scope.word(it.text)))
 
     def why_on(self) -> None:
         """Says once why it goes on after a checker was content."""
@@ -421,40 +422,41 @@ class Search:
         self.report.say("late", f"  timed out after {seconds} s: it is not known whether {what} a layout. The search assumes so, and skips no step "
                         "for it (--time allows more)", what=what, seconds=seconds)
 
-    def say_trial(self, hunt: Hunt, trial: Trial, listing: Listing) -> Trial:
-        """A trial with its number, after it is printed with what it listed."""
+    def say_step(self, scope: Scope, step: Step, listing: Listing) -> Step:
+        """A step with its number, after it is printed with what it listed."""
         self.number, self.was_late = self.number + 1, self.was_late or not listing.whole
-        trial = dataclasses.replace(trial, number=self.number, cures=(*trial.cures, *hunt.asking.unread_cure(trial.shape, trial.request)))
-        self.report.say("trial", f"step {self.number}: {trial.line()}: {listing.line()}", number=self.number, shape=trial.shape.line(),
-                        loosened=trial.loosened, listed=len(listing.sets), total=listing.total, note=listing.note, reason=self.why)
-        self.shapes_tried.add(trial.shape.line())
-        return trial
+        unread = scope.asking.unread_relaxation(step.shape, step.request)
+        step = dataclasses.replace(step, number=self.number, relaxations=(*step.relaxations, *unread))
+        self.report.say("trial", f"step {self.number}: {step.line()}: {listing.line()}", number=self.number, shape=step.shape.line(),
+                        loosened=step.relaxed, listed=len(listing.sets), total=listing.total, note=listing.note, reason=self.why)
+        self.shapes_tried.add(step.shape.line())
+        return step
 
-    def take(self, hunt: Hunt, trial: Trial, sets: Iterable[Ranked], words_of: Callable[[Ranked], tuple[Word | None, Word]]) -> bool:
-        """Tests the new sets of a trial, of each its word in the hunt and among all images; it says whether one of them is clean and whole."""
+    def take(self, scope: Scope, step: Step, sets: Iterable[Ranked], words_of: Callable[[Ranked], tuple[Word | None, Word]]) -> bool:
+        """Tests the new sets of a step, of each its word in the scope and among all images; it says whether one of them is clean and whole."""
         fresh: dict[str, Candidate] = {}
         for it in sets:
             listed, among_all = words_of(it)
             word = simplest(among_all)
             if word.text not in self.known:
                 self.known.add(word.text)
-                fresh[word.text] = Candidate(word, it.rank, trial, hunt, listed=listed)
+                fresh[word.text] = Candidate(word, it.rank, step, scope, listed=listed)
             if word != among_all and word.text in fresh:
                 fresh[word.text].alike.append(among_all.text)
         if not fresh:
             return False
         found = list(fresh.values())
         tested = self.looked_at(found, lambda: self.tests.test(found))
-        self.known -= self.left_of(trial, found)
-        telling = hunt.evidence.pairs is not None or not trial.is_bare
-        whole = self.keep([it for it in tested if telling or it.found.findings or it.word.level in trial.shape.telling.split(",")])
+        self.known -= self.left_of(step, found)
+        telling = scope.evidence.pairs is not None or not step.is_bare
+        whole = self.keep([it for it in tested if telling or it.found.findings or it.word.level in step.shape.telling.split(",")])
         return self.keep(self.tests.without_damaged(tested)) or whole
 
-    def left_of(self, trial: Trial, found: Sequence[Candidate]) -> set[str]:
-        """Return the sets of a trial that were not looked at and may be listed again: those of too many. What was put off without landmarks may be
+    def left_of(self, step: Step, found: Sequence[Candidate]) -> set[str]:
+        """Return the sets of a step that were not looked at and may be listed again: those of too many. What was put off without landmarks may be
         listed with them yet, and then it is known where its volume is to be looked at."""
         same = {text for it in found if it.verdict for text in it.alike}
-        kept = set() if trial.is_bare else {it.word.text for it in self.tests.put_off}
+        kept = set() if step.is_bare else {it.word.text for it in self.tests.put_off}
         return {it.word.text for it in found if it.verdict is None} - kept - same
 
     def looked_at(self, found: list[Candidate], test: Callable[[], list[Candidate]]) -> list[Candidate]:
@@ -474,35 +476,35 @@ class Search:
         settling.settle(self.tests, self.tested, lambda one, other: kin.contradict(one, other, same))
         return any(it.found.score is Score.WHOLE or it.found.is_intact for it in tested)
 
-    def near_mirrors(self, hunt: Hunt, missing: int) -> bool:
+    def near_mirrors(self, scope: Scope, missing: int) -> bool:
         """RAID 10 with two copies side by side; it says whether the search is at its end."""
-        members = len(hunt.evidence.images) + missing
-        return members >= NEAR_2.copies and self.mirrors(hunt, Copied((NEAR_2,), members, missing))
+        members = len(scope.evidence.images) + missing
+        return members >= NEAR_2.copies and self.mirrors(scope, Copied((NEAR_2,), members, missing))
 
-    def mirrors(self, hunt: Hunt, asked: Copied) -> bool:
+    def mirrors(self, scope: Scope, asked: Copied) -> bool:
         """RAID 10 by its copies: the sets, and where these group the images the RAID 0 of one of each group; it says whether the search is at its
         end."""
-        if asked.members > MOST_IMAGES or (self.options.members and asked.members not in self.options.members):
+        if asked.members > MAX_IMAGES or (self.options.members and asked.members not in self.options.members):
             return False
         try:
-            listing = Mirrors(hunt, self.commands).listing(asked)
+            listing = Mirrors(scope, self.commands).listing(asked)
         except Refused as error:
             self.say_refused(error)
             return False
-        trial = self.say_trial(hunt, Trial(Shape("10", asked.members, asked.missing), copied=asked), listing)
+        step = self.say_step(scope, Step(Shape("10", asked.members, asked.missing), copied=asked), listing)
         striped, others = ([it for it in listing.sets if is_striped(it) == wanted] for wanted in (True, False))
-        whole = self.take(hunt, trial, others, lambda it: (None, hunt.word(it.text)))
-        return any([whole, *(self.grouped(hunt, grouped) for grouped in groupings(striped))])
+        whole = self.take(scope, step, others, lambda it: (None, scope.word(it.text)))
+        return any([whole, *(self.grouped(scope, grouped) for grouped in groupings(striped))])
 
-    def grouped(self, over: Hunt, grouped: Grouped, counts: Sequence[int] = range(MOST_PAIRED + 1)) -> bool:
-        """The RAID 0 of one image of each group of a hunt, as a hunt of its own, with so many things loosened; it says whether the search is at its
+    def grouped(self, over: Scope, grouped: Grouped, counts: Sequence[int] = range(MAX_PAIRED + 1)) -> bool:
+        """The RAID 0 of one image of each group of a scope, as a scope of its own, with so many things relaxed; it says whether the search is at its
         end."""
         seen_by, start = over.evidence.images, over.evidence.start
         images = [seen_by[group[0]] for group in grouped.groups]
-        hunt = Hunt(self.options, self.commands, images, self.say_late, grouped.partners(seen_by), start, shared=self.surveys)
+        scope = Scope(self.options, self.commands, images, self.say_late, grouped.partners(seen_by), start, shared=self.surveys)
         self.report.say("pairs", grouped.line(seen_by), pairs=[list(group) for group in grouped.groups])
-        self.say_evidence(hunt)
-        shapes = hunt.shapes.tiers().all
-        steps = [Step(shapes, count) for count in counts]
-        bare = bool(shapes) and MOST_PAIRED in counts
-        return any(self.take_step(step, hunt) for step in steps) or bare and self.attempt_bare(hunt, shapes[0])
+        self.say_evidence(scope)
+        shapes = scope.shapes.tiers().all
+        stages = [Stage(shapes, count) for count in counts]
+        bare = bool(shapes) and MAX_PAIRED in counts
+        return any(self.take_stage(stage, scope) for stage in stages) or bare and self.attempt_bare(scope, shapes[0])

@@ -6,7 +6,7 @@ from collections.abc import Sequence
 from ..calls.sets import LEVELS
 from ..evidence.gathered import Evidence
 from ..options import Options
-from ..units import MOST_IMAGES
+from ..units import MAX_IMAGES
 
 
 @dataclasses.dataclass(frozen=True)
@@ -19,7 +19,7 @@ class Shape:
     foreign: int = 0
 
     def line(self) -> str:
-        """What is said of it."""
+        """Return it as one line of text."""
         said = [f"RAID {self.levels.replace(',', ' or ')} of {self.members} disks"]
         said += [f"{self.missing} missing"] if self.missing else []
         said += [f"{self.foreign} {'image' if self.foreign == 1 else 'images'} left out"] if self.foreign else []
@@ -112,6 +112,6 @@ class Shapes:
     def allowed(self, shape: Shape) -> Shape | None:
         """The shape with the levels alone that are asked for; None where it makes no sense."""
         levels = [level for level in filter(None, shape.levels.split(",")) if self.options.wants(level) and shape.members >= LEVELS[level].least]
-        if not levels or (self.options.members and shape.members not in self.options.members) or shape.members > MOST_IMAGES:
+        if not levels or (self.options.members and shape.members not in self.options.members) or shape.members > MAX_IMAGES:
             return None
         return dataclasses.replace(shape, levels=",".join(levels))

@@ -1,49 +1,54 @@
-"""Steps: the trials of some shapes with so many things loosened."""
+"""Steps: a shape, with what is relaxed for it, and what is asked for then."""
 
 import dataclasses
-from collections.abc import Callable
 
-from .cures import Cure, Family
+from ..calls.program import Copied
+from ..calls.surveys import Request
+from .relaxations import Relaxation, RelaxationKind
 from .shapes import Shape
+
+
+def names_of(relaxations: tuple[Relaxation, ...]) -> str:
+    """Return the names of relaxations as one text."""
+    return " and ".join(relaxation.name for relaxation in relaxations)
 
 
 @dataclasses.dataclass(frozen=True)
 class Step:
-    """The trials of some shapes with so many things loosened: of `quick` those that are soon told, of `every` also what is mostly wrong, of `only`
-    those alone that loosen what it says."""
+    """A listing: what is searched, what is relaxed, and what is asked for; of RAID 10 by its copies no request, but what is asked of these."""
 
-    shapes: tuple[Shape, ...]
-    count: int
-    every: bool = False
-    quick: bool = False
-    only: Callable[[Cure], bool] | None = None
+    shape: Shape
+    relaxations: tuple[Relaxation, ...] = ()
+    request: Request | None = None
+    number: int = 0
+    copied: Copied | None = None
 
+    @property
+    def relaxed(self) -> list[str]:
+        """The names of what is relaxed."""
+        return [relaxation.name for relaxation in self.relaxations]
 
-def stays(cure: Cure) -> bool:
-    """Parity stays for several rows."""
-    return cure.family is Family.DELAYS
+    @property
+    def has_bad_rows(self) -> bool:
+        """Rows may be unsound."""
+        return self.request is not None and self.request.number("badrows") > 0
 
+    @property
+    def lenient(self) -> bool:
+        """Marks may lie where they should not, or rows be unsound."""
+        return self.has_bad_rows or self.request is not None and self.request.number("misfits") > 0
 
-def is_of_kind(cure: Cure) -> bool:
-    """It is made for one kind of group, as what a fresh NTFS numbers 0 is."""
-    return cure.kind is not None
+    @property
+    def is_bare(self) -> bool:
+        """All groups of landmarks are left out."""
+        return any(relaxation.relaxes is RelaxationKind.BARE for relaxation in self.relaxations)
 
+    @property
+    def out(self) -> frozenset[int]:
+        """The groups that are left out."""
+        return frozenset().union(*(relaxation.out for relaxation in self.relaxations))
 
-def is_of_bad_rows(cure: Cure) -> bool:
-    """Rows may be bad, or it is made for one kind of group."""
-    return cure.family is Family.BAD_ROWS or is_of_kind(cure)
-
-
-def with_bad_rows(count: int, *shapes: Shape) -> Step:
-    """The trials in which rows may be bad, with what one kind of group needs where two things are loosened, of some shapes."""
-    return Step(shapes, count, only=is_of_bad_rows)
-
-
-def delayed(*shapes: Shape) -> Step:
-    """The trials in which parity stays for several rows, with nothing else loosened, of some shapes."""
-    return Step(shapes, 1, every=True, only=stays)
-
-
-def of_kinds(*shapes: Shape) -> Step:
-    """The trials in which what one kind of group needs is loosened alone, of some shapes."""
-    return Step(shapes, 1, every=True, only=is_of_kind)
+    def line(self) -> str:
+        """Return it as one line of text."""
+        copies = f", {self.copied.line()}" if self.copied else ""
+        return f"{self.shape.line()}{copies}; relaxed: {names_of(self.relaxations) or 'nothing'}"

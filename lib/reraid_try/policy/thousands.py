@@ -12,18 +12,18 @@ from ..calls.sets import LEVELS, read_word
 from ..errors import Refused
 from ..evidence import far, sampling
 from ..units import SECTOR, counted
-from . import cures
-from .cures import Family
-from .hunt import Hunt
+from . import relaxations
+from .relaxations import RelaxationKind
+from .scope import Scope
 from .shapes import Shape
-from .trials import Trial
+from .steps import Step
 
 if TYPE_CHECKING:
     from .search import Search
 
 # So many of them tell something at least; so many groups are asked, those with the most; more sets with as many tell nothing, nor do those at which
 # less than one in so many of a group lie where they say, as by chance.
-LEAST_MARKS, MOST_GROUPS, MOST_SETS, FEW_FIT = 12, 2, 64, 10
+MIN_MARKS, MAX_GROUPS, MAX_SETS, FEW_FIT = 12, 2, 64, 10
 
 
 @dataclasses.dataclass(frozen=True)
@@ -70,80 +70,80 @@ class Most:
         return said if following is None else f"{said}; with the next layout, {following} do"
 
 
-def seen(hunt: Hunt) -> list[str]:
+def seen(scope: Scope) -> list[str]:
     """The kinds of whose file systems superblocks were seen."""
-    groups = {group.kind for group in hunt.plan.groups}
+    groups = {group.kind for group in scope.plan.groups}
     return [it.kind for it in ALL.values() if it.seen_by in groups]
 
 
-def groups_of(hunt: Hunt, shape: Shape, kinds: Sequence[str], end: int | None = None) -> list[Group]:
+def groups_of(scope: Scope, shape: Shape, kinds: Sequence[str], end: int | None = None) -> list[Group]:
     """The groups of these kinds with enough landmarks, those with the most first, up to an end of the images, if that is not the usual one."""
-    found = [group for group in asked_of(hunt, shape, kinds, end).groups if group.kind in kinds and len(group.marks) >= LEAST_MARKS]
-    return sorted(found, key=lambda group: (-len(group.marks), group.place))[:MOST_GROUPS]
+    found = [group for group in asked_of(scope, shape, kinds, end).groups if group.kind in kinds and len(group.marks) >= MIN_MARKS]
+    return sorted(found, key=lambda group: (-len(group.marks), group.place))[:MAX_GROUPS]
 
 
-def asked_of(hunt: Hunt, shape: Shape, kinds: Sequence[str], end: int | None = None) -> Plan:
-    """The plan of a shape with nothing loosened, in which landmarks of these kinds are groups as well, up to an end of the images, if that is not the
+def asked_of(scope: Scope, shape: Shape, kinds: Sequence[str], end: int | None = None) -> Plan:
+    """The plan of a shape with nothing relaxed, in which landmarks of these kinds are groups as well, up to an end of the images, if that is not the
     usual one."""
-    request = hunt.asking.request(shape).having(kinds=",".join([surveys.KINDS, *kinds]))
-    return hunt.surveys.plan(request if end is None else request.having(end=end))
+    request = scope.asking.request(shape).having(kinds=",".join([surveys.KINDS, *kinds]))
+    return scope.surveys.plan(request if end is None else request.having(end=end))
 
 
-def far_end(hunt: Hunt, shapes: Sequence[Shape]) -> int | None:
+def far_end(scope: Scope, shapes: Sequence[Shape]) -> int | None:
     """The end of large images up to which tables of their file systems were surveyed, as far as these tell where they are; None if there are none."""
-    evidence = hunt.evidence
+    evidence = scope.evidence
     end = min(image.sectors for image in evidence.images)
     if evidence.pairs or end <= evidence.end or not sampling.is_large(evidence.start, evidence.end):
         return None
     data = {shape.members - LEVELS[level].parity for shape in shapes for level in shape.levels.split(",") if level in LEVELS}
     heads = tuple(far.Start(head.kind, place, head.sector) for place, image in enumerate(evidence.images) for head in image.heads)
     asked = far.Asked(evidence.names, end, evidence.end, tuple(sorted(data)), heads)
-    return end if hunt.surveys.far(evidence.start, evidence.base.get("logical", str(SECTOR)), hunt.near_plan, asked) else None
+    return end if scope.surveys.far(evidence.start, evidence.base.get("logical", str(SECTOR)), scope.near_plan, asked) else None
 
 
-def most_of(hunt: Hunt, shapes: Sequence[Shape], group: Group, kinds: Sequence[str], end: int | None = None) -> list[Most]:
+def most_of(scope: Scope, shapes: Sequence[Shape], group: Group, kinds: Sequence[str], end: int | None = None) -> list[Most]:
     """The shapes at whose sets the most landmarks of a group lie where they say: more than one where they are as many."""
     best: list[Most] = []
     for shape in shapes:
-        plan = asked_of(hunt, shape, kinds, end)
+        plan = asked_of(scope, shape, kinds, end)
         alone = plan.without({it.place for it in plan.groups if it.place != group.place})
-        fits = hunt.questions.most_fits(alone, group.place, best[0].fits - 1 if best else 0)
+        fits = scope.questions.most_fits(alone, group.place, best[0].fits - 1 if best else 0)
         if fits is not None:
             best = [it for it in best if it.fits == fits] + [Most(shape, alone, group, fits)]
     return best
 
 
-def attempt(search: "Search", hunt: Hunt, most: Most) -> bool:
-    """The trial of the sets at which the most of a group lie where they say; it says whether the search is at its end."""
+def attempt(search: "Search", scope: Scope, most: Most) -> bool:
+    """The step of the sets at which the most of a group lie where they say; it says whether the search is at its end."""
     if FEW_FIT * most.fits < len(most.group.marks):
         return False
-    listing = hunt.program.listing(most.bounded)
-    if not listing.whole or len(listing.sets) > MOST_SETS:
+    listing = scope.program.listing(most.bounded)
+    if not listing.whole or len(listing.sets) > MAX_SETS:
         return False
-    following = hunt.questions.most_fits(most.plan, most.group.place, beyond=len(listing.sets))
+    following = scope.questions.most_fits(most.plan, most.group.place, beyond=len(listing.sets))
     before, search.why = search.why, most.line(following)
     search.report.say("reason", f"  {search.why}", fits=most.fits, marks=len(most.group.marks), following=following, why=search.why)
     try:
-        return taken(search, hunt, most, listing)
+        return taken(search, scope, most, listing)
     finally:
         search.why = before
 
 
-def taken(search: "Search", hunt: Hunt, most: Most, listing: Listing) -> bool:
+def taken(search: "Search", scope: Scope, most: Most, listing: Listing) -> bool:
     """Tests these sets as others are, by the landmarks that are not asked for here too; it says whether the search is at its end."""
-    others = [group.place for group in hunt.plan.groups]
-    alone = cures.told(f"only the {most.marks.name}s of {most.marks.system}, as many as match", Family.ALONE, others)
-    trial = search.say_trial(hunt, Trial(most.shape, (alone,), hunt.asking.request(most.shape)), listing)
-    return search.take(hunt, trial, listing.sets, lambda it: (read_word(it.text), hunt.word(it.text)))
+    others = [group.place for group in scope.plan.groups]
+    alone = relaxations.told(f"only the {most.marks.name}s of {most.marks.system}, as many as match", RelaxationKind.ALONE, others)
+    step = search.say_step(scope, Step(most.shape, (alone,), scope.asking.request(most.shape)), listing)
+    return search.take(scope, step, listing.sets, lambda it: (read_word(it.text), scope.word(it.text)))
 
 
-def attempt_all(search: "Search", hunt: Hunt, shapes: Sequence[Shape], kinds: Sequence[str]) -> bool:
-    """The trials by each group of these kinds that has enough landmarks; it says whether the search is at its end."""
+def attempt_all(search: "Search", scope: Scope, shapes: Sequence[Shape], kinds: Sequence[str]) -> bool:
+    """The steps by each group of these kinds that has enough landmarks; it says whether the search is at its end."""
     try:
-        end = far_end(hunt, shapes)
-        groups = groups_of(hunt, shapes[0], kinds, end)
+        end = far_end(scope, shapes)
+        groups = groups_of(scope, shapes[0], kinds, end)
         search.report.bar.show("counts matching inodes and tree blocks")
-        return any(attempt(search, hunt, most) for group in groups for most in most_of(hunt, shapes, group, kinds, end))
+        return any(attempt(search, scope, most) for group in groups for most in most_of(scope, shapes, group, kinds, end))
     except Refused as error:
         search.say_refused(error)
         return False

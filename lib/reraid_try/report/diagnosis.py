@@ -9,15 +9,15 @@ from ..calls.plans import Group, Plan
 from ..calls.surveys import Request
 from ..checks.rows import Near, Rows
 from ..halving import halved
-from ..policy.cures import OF_MARKS
-from ..policy.hunt import Hunt
+from ..policy.relaxations import OF_MARKS
+from ..policy.scope import Scope
 from ..policy.shapes import Shape
 from .report import Report
 
 # So many sets are asked of each plan, and shown at the end.
 FEW, SHOWN = 24, 3
-# So many shapes, and groups of each, are looked at, for so many times as long as a trial.
-MOST_SHAPES, MOST_GROUPS, TIMES = 6, 8, 4
+# So many shapes, and groups of each, are looked at, for so many times as long as a step.
+MAX_SHAPES, MAX_GROUPS, TIMES = 6, 8, 4
 # The next set may have fewer unsound rows than the last one by this part.
 NEXT_FEWER = 64
 ON_THE_WAY = """  so far no layout is consistent. Of the layouts that landmarks allow, these have the fewest inconsistent rows. If images are \
@@ -25,12 +25,12 @@ damaged, the right one may be among them. The search continues. To look at one: 
 
 
 class Diagnosis:
-    """Looks for the nearest sets of a hunt: those with the fewest unsound rows of all that landmarks allow, and those of which the most marks
+    """Looks for the nearest sets of a scope: those with the fewest unsound rows of all that landmarks allow, and those of which the most marks
     fit of all that parity allows."""
 
-    def __init__(self, hunt: Hunt, report: Report, seconds: int, jobs: int) -> None:
-        self.hunt, self.report, self.seconds, self.jobs = hunt, report, seconds, jobs
-        self.rows = Rows(hunt)
+    def __init__(self, scope: Scope, report: Report, seconds: int, jobs: int) -> None:
+        self.scope, self.report, self.seconds, self.jobs = scope, report, seconds, jobs
+        self.rows = Rows(scope)
         self.until = 0.0
         self.begin()
 
@@ -42,7 +42,7 @@ class Diagnosis:
         """The first sets of a plan that pass; none after the diagnosis's time."""
         if time.monotonic() > self.until:
             return []
-        return [it.text for it in self.hunt.program.page(plan.text(), most=most).sets]
+        return [it.text for it in self.scope.program.page(plan.text(), most=most).sets]
 
     def least(self, plan: Plan, below: int) -> int | None:
         """The fewest misfits, below this number, with which a plan lists a set; None where there is none."""
@@ -69,21 +69,21 @@ class Diagnosis:
 
     def shapes(self) -> list[tuple[Shape, Request]]:
         """The shapes of which parity tells something, with what is asked for."""
-        return [(shape, self.hunt.asking.request(shape)) for shape in self.hunt.shapes.tiers().all if shape.parity][:MOST_SHAPES]
+        return [(shape, self.scope.asking.request(shape)) for shape in self.scope.shapes.tiers().all if shape.parity][:MAX_SHAPES]
 
     def by_rows(self, shapes: Sequence[tuple[Shape, Request]]) -> list[Near]:
         """Of the sets that landmarks allow, all or some of them, those with about the fewest unsound rows, none with more than twice as many as
         others. Those that most marks of a group speak against are the last."""
         found: dict[str, Near] = {}
-        most = self.hunt.evidence.end
+        most = self.scope.evidence.end
         for shape, request in shapes:
-            changed = [cure.of(request) for cure in self.hunt.asking.cures(shape) if cure.family in OF_MARKS]
+            changed = [relaxation.of(request) for relaxation in self.scope.asking.relaxations(shape) if relaxation.relaxes in OF_MARKS]
             for it in [request, *changed]:
-                plan = self.hunt.surveys.plan(it).having(levels=shape.telling)
+                plan = self.scope.surveys.plan(it).having(levels=shape.telling)
                 rows = self.fewest(plan, most) if plan.groups else None
                 if rows:
                     most = min(most, 2 * rows)
-                    near = self.hunt.surveys.plan(request).having(misfits=it.number("misfits"))
+                    near = self.scope.surveys.plan(request).having(misfits=it.number("misfits"))
                     for word in self.sets(plan.having(badrows=rows), FEW):
                         found.setdefault(word, Near(word, near))
         return sorted(self.asked(list(found.values())), key=lambda it: it.by_rows)
@@ -92,10 +92,10 @@ class Diagnosis:
         """Of all sets that parity allows those of which the most groups hold, each group by itself with the fewest misfits."""
         found: dict[str, Near] = {}
         for shape, request in self.shapes():
-            whole = self.hunt.surveys.plan(request).having(levels=shape.telling)
+            whole = self.scope.surveys.plan(request).having(levels=shape.telling)
             if not self.sets(whole.bare(), 1):
                 continue
-            for group in sorted(whole.groups, key=lambda group: -len(group.marks))[:MOST_GROUPS]:
+            for group in sorted(whole.groups, key=lambda group: -len(group.marks))[:MAX_GROUPS]:
                 for near in self.of_group(whole, group):
                     found.setdefault(near.word, near)
         return sorted(self.asked(list(found.values())), key=lambda it: it.by_marks)
@@ -110,13 +110,13 @@ class Diagnosis:
 
     def show_on_the_way(self) -> None:
         """Prints the sets with the fewest unsound rows of the shapes that hints speak for, where parity allows none at the offsets of the hints."""
-        shapes = [shape for shape in self.hunt.shapes.tiers().all if self.hunt.shapes.speak_for(shape) and self.hunt.questions.is_unsound(shape)]
-        if self.hunt.plan.groups and (rows := self.by_rows([(shape, self.hunt.asking.request(shape)) for shape in shapes])):
+        shapes = [shape for shape in self.scope.shapes.tiers().all if self.scope.shapes.speak_for(shape) and self.scope.questions.is_unsound(shape)]
+        if self.scope.plan.groups and (rows := self.by_rows([(shape, self.scope.asking.request(shape)) for shape in shapes])):
             self.report.say("on the way", ON_THE_WAY)
             self.lines(rows[:SHOWN])
 
     def show(self, was_late: bool) -> None:
-        """Prints the nearest sets. `was_late` says that some trial or question did not come to its end."""
+        """Prints the nearest sets. `was_late` says that some step or question did not come to its end."""
         self.begin()
         rows = self.by_rows(self.shapes())
         self.begin()
@@ -142,7 +142,7 @@ class Diagnosis:
         """A line for each of these sets, with the numbers that the images have among all."""
         for near in found:
             bounds, turned = self.rows.bounds(near), self.rows.turned(near)
-            word = self.hunt.word(near.word).text
+            word = self.scope.word(near.word).text
             text = dataclasses.replace(near, word=word).line(bounds) + (f"; {turned.text()}" if turned else "")
             self.report.say("near", text, set=word, unsound=near.told.unsound, rows=near.told.rows, first=bounds.first, last=bounds.last,
                             groups=[group.text() for group in near.groups], reshaped=turned.row if turned else None)

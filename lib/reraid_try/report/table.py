@@ -28,18 +28,18 @@ def lines(number: int, it: Candidate) -> list[str]:
     volume = "; ".join(filter(None, [it.found.text(), *(f"{lacks}: {doubt}" for doubt in it.doubts), kin.text(it)]))
     matches = [f"landmarks that match: {' '.join(group.short() for group in it.groups)}"] if it.groups else []
     bad = [counted(it.unsound, "inconsistent row")] if it.unsound else []
-    tests = "; ".join([f"relaxed: {' and '.join(it.trial.loosened) or 'nothing'}", *matches, *bad])
-    return [f"{it.score.sign:4}{number:<4}{it.word.text}", *(INDENT + told for told in (*it.alike, volume, tests))]
+    tests = "; ".join([f"relaxed: {' and '.join(it.step.relaxed) or 'nothing'}", *matches, *bad])
+    return [f"{it.score.rating:4}{number:<4}{it.word.text}", *(INDENT + told for told in (*it.alike, volume, tests))]
 
 
 def fields(number: int, it: Candidate) -> dict[str, Any]:
     """What programs are told of a candidate."""
     found = it.found
     inside = [it.inside.number, it.inside.rows] if it.inside else None
-    return {"class": number, "set": it.word.text, "rank": it.rank, "loosened": it.trial.loosened, "unsound": it.unsound,
-            "fits": [group.short() for group in it.groups], "alike": it.alike, "score": int(it.score), "sign": it.score.sign, "doubts": it.doubts,
+    return {"class": number, "set": it.word.text, "rank": it.rank, "loosened": it.step.relaxed, "unsound": it.unsound,
+            "fits": [group.short() for group in it.groups], "alike": it.alike, "score": int(it.score), "sign": it.score.rating, "doubts": it.doubts,
             "clean": found.clean, "files": found.files.found, "files_whole": found.files.whole, "same": it.same, "inside": inside,
-            "found": [finding.text() for finding in found.findings], "note": "; ".join(found.notes), "trial": it.trial.number}
+            "found": [finding.text() for finding in found.findings], "note": "; ".join(found.notes), "trial": it.step.number}
 
 
 def shown(as_json: bool, order: Sequence[Candidate]) -> tuple[list[Numbered], list[str]]:

@@ -15,7 +15,7 @@ from ..units import SECTOR
 
 LVM = "LVM2_member"
 # The most characters of maps that are typed.
-MOST_TYPED = 4000
+MAX_TYPED = 4000
 
 
 @dataclasses.dataclass(frozen=True)
@@ -155,7 +155,7 @@ def typed_maps(members: Members) -> str:
     unread = [unread_of(members.word, image) for image in members.images]
     plain = [dataclasses.replace(it, text=it.plain) if it else None for it in unread]
     text = (maps_text(plain) or "").replace("\n", "\\n")
-    return text if len(text) <= MOST_TYPED else ""
+    return text if len(text) <= MAX_TYPED else ""
 
 
 def of_maps(word: Word, images: Sequence[Image], is_typed: bool = False) -> list[str]:

@@ -15,7 +15,7 @@ from ..units import sectors_said
 from .report import Report
 from .typed import Typed, commands, of_maps, typed_maps
 
-MOST_TOLD = 3
+MAX_TOLD = 3
 PATTERNS = {"la": "left-asymmetric", "ra": "right-asymmetric", "ls": "left-symmetric", "rs": "right-symmetric", "parity-first": "parity first",
             "parity-last": "parity last", "n-restart": "N restart", "n-continue": "N continue"}
 ORDERS = {"by-data": "Q coefficients by data number", "by-slot": "Q coefficients by slot"}
@@ -51,7 +51,7 @@ def short(names: Sequence[str]) -> list[str]:
 
 
 def slots(word: Word, names: Sequence[str]) -> str:
-    """The image of each slot; of copies that fill slots side by side with a sign between them."""
+    """The image of each slot; of copies that fill slots side by side with an equals sign between them."""
     told = ["(missing)" if slot is None else names[slot] for slot in word.slots]
     if word.together > 1:
         groups = ("=".join(told[first:first + word.together]) for first in range(0, len(told), word.together))
@@ -113,7 +113,7 @@ def encrypted(order: Sequence[Candidate]) -> list[tuple[int, Candidate]]:
 
 def lines_of(number: int, it: Candidate, images: Sequence[Image], said: Sequence[str], typed: Typed) -> list[str]:
     """Return what is printed of a candidate."""
-    relaxed = "relaxed: " + (" and ".join(it.trial.loosened) or "nothing")
+    relaxed = "relaxed: " + (" and ".join(it.step.relaxed) or "nothing")
     lines = [f"candidate {number}: {said[0]}"]
     lines += [f"  {text}" for text in (*said[1:], relaxed, it.rows, it.alike_said, *it.old, *twins(it.word, images), kin.text(it)) if text]
     lines += [f"  {LOOK}", *("    " + line for line in typed.lines), f"  {END}", *("    " + line for line in typed.ends)]
@@ -135,7 +135,7 @@ def apart_lines(it: Candidate, order: Sequence[Candidate]) -> list[str]:
 
 
 def say_class(report: Report, number: int, it: Candidate, images: Sequence[Image], order: Sequence[Candidate] = ()) -> None:
-    """What a class is, what was loosened for it, and what to type; `order` are all classes."""
+    """What a class is, what was relaxed for it, and what to type; `order` are all classes."""
     names = [image.called for image in images]
     said, typed = in_words(it.word, names, it.whole.word if it.whole else None), commands(number, it, images)
     report.say("words", "\n".join(lines_of(number, it, images, said, typed) + apart_lines(it, order)),
@@ -144,7 +144,7 @@ def say_class(report: Report, number: int, it: Candidate, images: Sequence[Image
 
 
 def show(report: Report, order: Sequence[Candidate], images: Sequence[Image]) -> None:
-    """For each class with a rating what it is, what was loosened for it, and what to type; it chooses none. What is encrypted is told apart by no
+    """For each class with a rating what it is, what was relaxed for it, and what to type; it chooses none. What is encrypted is told apart by no
     checker."""
     told, closed = best(order), encrypted(order)
     for number, it in told:
@@ -155,7 +155,7 @@ def show(report: Report, order: Sequence[Candidate], images: Sequence[Image]) ->
         numbers = ", ".join(str(number) for number, _ in closed)
         report.say("encrypted", f"encrypted ({kinds}): no checker tells {'this candidate' if len(closed) == 1 else 'these candidates'} from a wrong "
                    f"one. Try each with its key: candidate {numbers}", classes=[number for number, _ in closed], kinds=kinds)
-    for number, it in closed[:MOST_TOLD]:
+    for number, it in closed[:MAX_TOLD]:
         say_class(report, number, it, images, order)
-    if len(closed) > MOST_TOLD:
-        report.say("words", f"{len(closed) - MOST_TOLD} more of these are only in the list above", more=len(closed) - MOST_TOLD)
+    if len(closed) > MAX_TOLD:
+        report.say("words", f"{len(closed) - MAX_TOLD} more of these are only in the list above", more=len(closed) - MAX_TOLD)

@@ -11,9 +11,10 @@ from .dependence import inverse, product
 from .relations import Relations, Rows, Tie
 
 # Two images belong together where ties hold both in so many rows at least, and in one of so many in which neither is zeros.
-LEAST_TIED, FEW_TIED = 4, 50
-# An image that no such ties hold belongs to a family that few rows tie, where it has one in so many ties of the family with an image of it.
-FEW_OF_FAMILY = 10
+MIN_TIED, FEW_TIED = 4, 50
+# An image that no such ties hold belongs to a group that few rows tie, where it has one in so many ties of the group with an image of
+# it.
+FEW_OF_GROUP = 10
 # Two arrays that hold the same at some places are tied apart in so many times as many rows at least as across.
 PART_ACROSS = 2
 # So much of what is tied has weights of 1 alone at level 5. A number of ties that one in so many rows has, and not most, is possible too.
@@ -21,12 +22,12 @@ PART_PLAIN, FEW_OTHER = Fraction(4, 5), 10
 # Where so few rows have no image of zeros, all others count: so many ties as nearly all of them have are those of parity.
 FEW_FULL, PART_TIED = 8, Fraction(19, 20)
 # An image is old where it stands outside of the ties of others in so many rows; a reshape stopped where so many stand on either side.
-LEAST_OLD, LEAST_RESHAPED = 4, 8
+MIN_OLD, MIN_RESHAPED = 4, 8
 # Two images are copies where so much of the rows in which one of them is not zeros ties just these two.
 PART_COPIED = Fraction(9, 10)
 CHUNKS = tuple(1 << power for power in range(15, 2, -1))
 # So much of the places where ties change lies at one distance from the borders of chunks of the right length, of so many places at least.
-PART_AT_BORDERS, LEAST_BORDERS = Fraction(9, 10), 4
+PART_AT_BORDERS, MIN_BORDERS = Fraction(9, 10), 4
 
 LEVEL_5, LEVEL_6, COPIES = "5", "6", "10"
 Vector = Mapping[int, int]
@@ -41,12 +42,12 @@ class Old:
     first: int
 
     def line(self, name: str) -> str:
-        """What is said of it."""
+        """Return it as one line of text."""
         return (f"{name} is old or damaged from sector {self.first} on, or from another array. In {self.rows} of the sampled rows, parity matches "
                 "the others without it")
 
     def closer(self, relations: Relations, images: frozenset[int]) -> "Old":
-        """The same, by the rows just before the first one, which lie closer to each other; `images` are those of the family."""
+        """The same, by the rows just before the first one, which lie closer to each other; `images` are those of the group."""
         found = (rows.first for rows in relations.tied_rows() if not rows.zero & images
                  and tied_images(ties_among(rows, images)) == images - {self.image})
         return dataclasses.replace(self, first=min(found, default=self.first))
@@ -66,7 +67,7 @@ class Reshape:
     empty: bool = False
 
     def line(self) -> str:
-        """What is said of it."""
+        """Return it as one line of text."""
         out = ", ".join(map(str, sorted(self.before - self.after)))
         return (f"parity changes for good between sectors {self.last} and {self.sector}: before, it matches {len(self.before)} images; after, only "
                 f"{len(self.after)}, without image {out}. A reshape may have stopped there. Or an older array of {len(self.after)} disks follows "
@@ -74,7 +75,7 @@ class Reshape:
                 f". Or nothing is stored on image {out} there, since it is zeros there" * self.empty)
 
     def short(self) -> str:
-        """What is said of it at the end, where no volume has a sign, and how to go on."""
+        """Return what is printed at the end, if no volume has a rating, and how to go on."""
         out, first = ", ".join(map(str, sorted(self.before - self.after))), max(MIB, (self.last + 1) * SECTOR)
         return (f"perhaps a reshape from {len(self.after)} to {len(self.before)} disks stopped between sectors {self.last} and {self.sector}, as "
                 "reported above. Then no single layout gives the whole volume: the first array ends there, and the second begins. To search for the "
@@ -91,12 +92,12 @@ class Reshape:
 
 
 @dataclasses.dataclass(frozen=True)
-class Family:
+class ImageGroup:
     """Images that belong together. `level` is that of their parity (10 for copies), None where ties do not tell it; `parity` how many ties most of
     the rows have in which no image is zeros, which is how many disks more might be lost were no image old, and `others` what numbers of ties rows
     have besides: more where what is lost is zeros, fewer where rows are bad. `first` and `last` are the first and last row that is tied. `loose`
     counts the rows in which one image at most is zeros and nothing is tied though most are, the first of them at `loose_first`. `copies` are the
-    images of which two hold the same in nearly all rows; images of which two do so in most rows are a family of copies without them."""
+    images of which two hold the same in nearly all rows; images of which two do so in most rows are a group of copies without them."""
 
     images: tuple[int, ...]
     rows: int
@@ -209,7 +210,7 @@ def pair_counts(relations: Relations, images: frozenset[int]) -> tuple[collectio
 def belonging(relations: Relations, images: frozenset[int]) -> list[frozenset[int]]:
     """The sets of images that belong together, the largest first."""
     tied, there = pair_counts(relations, images)
-    strong = [pair for pair, count in tied.items() if count >= LEAST_TIED and FEW_TIED * count >= there[pair]]
+    strong = [pair for pair, count in tied.items() if count >= MIN_TIED and FEW_TIED * count >= there[pair]]
     found = connected([*strong, *joining(tied, connected(strong))])
     return sorted((part for it in found for part in parted(relations, it, tied)), key=lambda it: (-len(it), sorted(it)))
 
@@ -237,11 +238,11 @@ def parted(relations: Relations, images: frozenset[int], tied: Mapping[tuple[int
 
 
 def joining(tied: Mapping[tuple[int, int], int], found: Sequence[frozenset[int]]) -> Iterator[tuple[int, int]]:
-    """The pairs by which an image that is in no family joins one. `tied` has in how many rows ties connect two images."""
+    """The pairs by which an image that is in no group joins one. `tied` has in how many rows ties connect two images."""
     within = frozenset().union(*found)
-    for family in found:
-        least = max(LEAST_TIED, *(-(-count // FEW_OF_FAMILY) for pair, count in tied.items() if family.issuperset(pair)))
-        yield from (pair for pair, count in tied.items() if len(within.intersection(pair)) == len(family.intersection(pair)) == 1 and count >= least)
+    for group in found:
+        least = max(MIN_TIED, *(-(-count // FEW_OF_GROUP) for pair, count in tied.items() if group.issuperset(pair)))
+        yield from (pair for pair, count in tied.items() if len(within.intersection(pair)) == len(group.intersection(pair)) == 1 and count >= least)
 
 
 @dataclasses.dataclass(frozen=True)
@@ -258,7 +259,7 @@ class Blank:
 
 @dataclasses.dataclass
 class Tally:
-    """What the rows of a family say, by how many of them say it."""
+    """What the rows of a group say, by how many of them say it."""
 
     images: frozenset[int]
     rows: int = 0
@@ -312,7 +313,7 @@ class Tally:
     @property
     def copied(self) -> bool:
         """Where more than two images are not zeros most ties hold two that are the same, and parity would hold all of them."""
-        return self.joined >= LEAST_TIED and 2 * self.paired > self.joined
+        return self.joined >= MIN_TIED and 2 * self.paired > self.joined
 
     @property
     def parity(self) -> int:
@@ -346,7 +347,7 @@ class Tally:
             if it.whole and 0 < it.ties < self.parity:
                 found[it.image] += it.rows
                 first[it.image] = min(it.first, first.get(it.image, it.first))
-        return tuple(Old(image, rows, first[image]) for image, rows in sorted(found.items()) if rows >= LEAST_OLD)
+        return tuple(Old(image, rows, first[image]) for image, rows in sorted(found.items()) if rows >= MIN_OLD)
 
     def loose_rows(self) -> tuple[int, int | None]:
         """How many rows in which one image at most is zeros have no tie, and the first of them; none where parity says nothing."""
@@ -366,7 +367,7 @@ def copies_of(relations: Relations, images: frozenset[int]) -> tuple[tuple[int, 
             if tie.plain and len(tie.weights) == 1:
                 same[tie.weights[0][0], tie.image] += count
     return tuple((one, other) for (one, other), count in sorted(same.items())
-                 if {one, other} <= images and count >= LEAST_TIED and count >= PART_COPIED * max(there[one], there[other]))
+                 if {one, other} <= images and count >= MIN_TIED and count >= PART_COPIED * max(there[one], there[other]))
 
 
 def reshape_of(relations: Relations, images: frozenset[int], parity: int) -> Reshape | None:
@@ -384,13 +385,13 @@ def reshape_of(relations: Relations, images: frozenset[int], parity: int) -> Res
         after = [(first, count, len(ties) == parity or len(ties) == 1 and ties[0].plain) for first, count, found, ties in tied
                  if first > last and found == rest]
         behind, alike = sum(count for _, count, _ in after), sum(count for _, count, same in after if same)
-        if min(before, behind) >= LEAST_RESHAPED and FEW_OTHER * others <= before and alike >= PART_PLAIN * behind:
+        if min(before, behind) >= MIN_RESHAPED and FEW_OTHER * others <= before and alike >= PART_PLAIN * behind:
             empty = all(image in rows.zero for rows in relations.tied_rows() if rows.first > last)
             return Reshape(until, min(first for first, _, _ in after), images, rest, empty)
     return None
 
 
-def family_of(relations: Relations, images: frozenset[int]) -> Family:
+def group_of(relations: Relations, images: frozenset[int]) -> ImageGroup:
     """What the rows say of images that belong together."""
     tally, tied = Tally(images), [rows for rows in relations.rows if ties_among(rows, images)]
     # What stands before the first tied row and behind the last one is no part of the array, such as metadata.
@@ -399,15 +400,16 @@ def family_of(relations: Relations, images: frozenset[int]) -> Family:
             tally.add(rows, relations.count(rows))
     copies, first = copies_of(relations, images), tally.first or 0
     if len(copies) >= len(images) // 2 or tally.copied or len(images) == 2 and tally.parity:
-        return Family(tuple(sorted(images)), tally.rows, first, tally.last, COPIES, 0, copies=copies)
+        return ImageGroup(tuple(sorted(images)), tally.rows, first, tally.last, COPIES, 0, copies=copies)
     reshape = reshape_of(relations, images, tally.parity) if tally.parity else None
     old = () if reshape or tally.level != LEVEL_6 else tally.old()
-    return Family(tuple(sorted(images)), tally.rows, first, tally.last, tally.level, tally.parity, old, reshape, tally.others, *tally.loose_rows())
+    return ImageGroup(tuple(sorted(images)), tally.rows, first, tally.last, tally.level, tally.parity, old, reshape, tally.others,
+                      *tally.loose_rows())
 
 
-def families(relations: Relations, images: Iterable[int]) -> list[Family]:
-    """The families among these images, the largest first."""
-    return [family_of(relations, it) for it in belonging(relations, frozenset(images))]
+def image_groups(relations: Relations, images: Iterable[int]) -> list[ImageGroup]:
+    """The groups among these images, the largest first."""
+    return [group_of(relations, it) for it in belonging(relations, frozenset(images))]
 
 
 def borders(relations: Relations, images: frozenset[int]) -> Iterator[int]:
@@ -429,7 +431,7 @@ def chunk_of(relations: Relations, images: Iterable[int]) -> tuple[int, int] | N
     in most rows there. None where ties change nowhere, as at level 5, or at too few places."""
     there = frozenset(images)
     found = list(borders(relations, there))
-    if len(found) < LEAST_BORDERS:
+    if len(found) < MIN_BORDERS:
         return None
     for chunk in CHUNKS:
         place, count = collections.Counter(it % chunk for it in found).most_common(1)[0]

@@ -1,4 +1,4 @@
-"""A hunt: a search over some of the images, by their evidence; what is listed of each trial, and what is passed over."""
+"""A scope: a search over some of the images, by their evidence; what is listed of each step, and what is passed over."""
 
 import dataclasses
 import itertools
@@ -6,7 +6,7 @@ from collections.abc import Callable, Iterator, Mapping, Sequence
 
 from ..calls.commands import Runner, quoted
 from ..calls.plans import Plan
-from ..calls.program import MOST_LINES, Listing, Program
+from ..calls.program import MAX_LINES, Listing, Program
 from ..calls.sets import NEAR, Copying, Word, mirrored, read_word
 from ..calls.surveys import Request
 from ..evidence import gathered
@@ -16,21 +16,21 @@ from ..evidence.places import Places
 from ..evidence.surveying import LargeSurveys, Shared, every_kind
 from ..options import Options
 from ..units import listed
-from .cures import Cure, Family, choices, loosened
+from .relaxations import Relaxation, RelaxationKind, choices, relaxed
 from .plans import Asking
 from .questions import Late, Questions
 from .shapes import Shape, Shapes
+from .stages import Stage
 from .steps import Step
-from .trials import Trial
 
 
 # Of more sets than these those are left out against which zeros speak, where that can be known.
 FEW_SETS = 1
 
 
-class Hunt:
+class Scope:
     """A search over these images, behind a start on each. With `pairs` its sets are those of a RAID 0 of one image of each pair; `asked` is asked for
-    in each trial; `tied` says that parity ties the images; `shared` has the surveys of other hunts. `late` is told of each question that ran out of
+    in each step; `tied` says that parity ties the images; `shared` has the surveys of other scopes. `late` is told of each question that ran out of
     its time; `cut_short` has the plans of which the listing did."""
 
     def __init__(self, options: Options, commands: Runner, images: Sequence[Image], late: Late, pairs: Pairs | None = None,
@@ -61,24 +61,24 @@ class Hunt:
 
     @property
     def near_plan(self) -> Plan:
-        """The first plan, with the places of the images in this hunt in place of their numbers among all, and with landmarks of later kinds."""
+        """The first plan, with the places of the images in this scope in place of their numbers among all, and with landmarks of later kinds."""
         return self.surveys.plan(self.evidence.base.having(kinds=every_kind()))
 
-    def ways(self, shape: Shape, step: Step) -> Iterator[tuple[tuple[Cure, ...], Request]]:
-        """The requests of a step for a shape, in order, each with what is loosened at once. Where parity tells something, what changes it is loosened
+    def ways(self, shape: Shape, stage: Stage) -> Iterator[tuple[tuple[Relaxation, ...], Request]]:
+        """The requests of a stage for a shape, in order, each with what is relaxed at once. Where parity tells something, what changes it is relaxed
         only as far as parity needs it, and at the offsets that need it; all else too, where every one is asked for."""
-        every = step.every
-        request = self.asking.request(shape, every or step.count == 0)
-        found = [cure for cure in self.asking.cures(shape, every, step.quick) if step.only is None or step.only(cure)]
-        for chosen in choices(found, step.count):
-            asked = loosened(request, chosen)
+        every = stage.every
+        request = self.asking.request(shape, every or stage.count == 0)
+        found = [relaxation for relaxation in self.asking.relaxations(shape, every, stage.quick) if stage.only is None or stage.only(relaxation)]
+        for chosen in choices(found, stage.count):
+            asked = relaxed(request, chosen)
             if every or not shape.parity:
                 yield chosen, asked
-            elif offsets := self.questions.needing(shape, [cure for cure in chosen if cure.rows], asked):
+            elif offsets := self.questions.needing(shape, [relaxation for relaxation in chosen if relaxation.rows], asked):
                 yield chosen, asked.having(offsets=listed(offsets))
 
     def to_list(self, shape: Shape, request: Request, last: bool = False) -> Plan | None:
-        """The plan that a trial lists; None where it is the same as an earlier one, or where nothing would rule sets out."""
+        """The plan that a step lists; None where it is the same as an earlier one, or where nothing would rule sets out."""
         plan = self.surveys.plan(request)
         groups = [group for group in plan.groups if group.marks]
         if not (groups or last or shape.parity and not self.plan.groups):
@@ -92,16 +92,16 @@ class Hunt:
         return plan
 
     def may_list(self, plan: Plan, shape: Shape) -> bool:
-        """The trial of a plan is not passed over."""
+        """The step of a plan is not passed over."""
         may = self.questions.may_list(plan, shape)
         self.passed_over += not may
         return may
 
     def listing(self, shape: Shape, request: Request, plan: Plan) -> Listing:
-        """What a trial lists, without the sets that rows speak against whose zeros tell where parity lies. Zeros are asked where it lists many."""
+        """What a step lists, without the sets that rows speak against whose zeros tell where parity lies. Zeros are asked where it lists many."""
         self.tell(request)
         found = self.questions.climb(plan) if self.questions.has_bad_rows(plan, shape) else self.program.listing(plan)
-        if not found.whole and len(found.sets) < MOST_LINES:
+        if not found.whole and len(found.sets) < MAX_LINES:
             self.cut_short.add(plan.text())
         places = self.places_at(shape, few=len(found.sets) <= FEW_SETS)
         if places is None or not found.sets:
@@ -122,13 +122,13 @@ class Hunt:
         self.cut_short.clear()
 
     def tell(self, request: Request) -> None:
-        """Shows the commands of a trial."""
+        """Shows the commands of a step."""
         names = self.evidence.names
-        words = [request.words(names), *request.filters(self.surveys.seen(request)), ["reraid", "list", f"size={MOST_LINES}", "--", *names]]
+        words = [request.words(names), *request.filters(self.surveys.seen(request)), ["reraid", "list", f"size={MAX_LINES}", "--", *names]]
         self.commands.tell(" | ".join(quoted(it) for it in words))
 
     def word(self, text: str) -> Word:
-        """A set of this hunt as one of all images, with one offset where all are the same."""
+        """A set of this scope as one of all images, with one offset where all are the same."""
         word = read_word(text).folded()
         pairs = self.evidence.pairs
         if not pairs:
@@ -139,11 +139,11 @@ class Hunt:
             slots += [*there, *[None] * (pairs.copies - len(there))]
         return mirrored(Copying(NEAR, pairs.copies), word.chunk, word.offset, tuple(slots))
 
-    def checked_by(self, trial: Trial) -> Plan | None:
-        """The plan with which `check` is asked of a candidate of a trial: with all groups, whatever was left out, and over the whole window, where a
+    def checked_by(self, step: Step) -> Plan | None:
+        """The plan with which `check` is asked of a candidate of a step: with all groups, whatever was left out, and over the whole window, where a
         half was listed by; None for RAID 10."""
-        if trial.request is None:
+        if step.request is None:
             return None
-        request = dataclasses.replace(trial.request, out=())
-        halved = any(cure.family is Family.WINDOW for cure in trial.cures)
+        request = dataclasses.replace(step.request, out=())
+        halved = any(relaxation.relaxes is RelaxationKind.WINDOW for relaxation in step.relaxations)
         return self.surveys.plan(request.having(window=self.evidence.window) if halved else request)

@@ -166,7 +166,7 @@ def searched(checks, folder):
                    "<dt>case</dt><dd>7/2026</dd>", "<dt>examiner</dt><dd>A. B. &lt;C&gt;</dd>", "bytes, changed last 20"):
         checks.that(wanted in text, f"it has: {wanted}")
     again = subprocess.run(words, cwd=folder, env=env, capture_output=True, text=True, check=False)
-    checks.that(again.returncode == 2 and "is not written over" in again.stderr, "a page that is there is not written over")
+    checks.that(again.returncode == 2 and "exists already" in again.stderr and page.read_text(encoding="utf-8") == text, "a page that exists is kept")
     return page
 
 

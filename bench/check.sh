@@ -3,7 +3,8 @@
 # - that VERSION is the number everywhere, that FORMATS has the texts of the programs, and that all scripts can be parsed
 # - the unit tests of the Python modules, their types and their layout
 # - the answers worked out by hand, with the reference in Python, and with crates that are built without a proof
-# - that the definitions and edits named by pages exist, and that the pictures of LAYOUTS agree with disks.py
+# - that the definitions and edits named by pages exist, that the pictures of LAYOUTS agree with disks.py, and that no more files than today
+#   read the parts of a layout
 # - that pages and messages keep to the limits of words.py, and that links lead to headings that exist
 # - the commands of README as they are printed
 # It skips what is not installed, and prints what it skips. After each step it prints the seconds that it took, and the seconds of processor time,
@@ -54,7 +55,7 @@ scripts() {
 }
 
 types() (
-    cd lib && mypy && mypy --strict --cache-dir /dev/null ../bench/pages/{prose,private_words,words,links,test_words,test_links}.py &&
+    cd lib && mypy && mypy --strict --cache-dir /dev/null ../bench/pages/{prose,private_words,words,links,layouts,test_words,test_links,test_layouts}.py &&
         { ! there flake8 "the layout of the modules" || flake8; }
 )
 
@@ -63,7 +64,7 @@ units() (
 )
 
 pages_units() (
-    cd bench/pages && python3 -B -m unittest -q test_words test_links
+    cd bench/pages && python3 -B -m unittest -q test_words test_links test_layouts
 )
 
 rows() (
@@ -81,8 +82,9 @@ step "the unit tests of the Python modules" units
 step "answers worked out by hand, with the reference" hostile/differential/rows.py
 step "the definitions named by pages" bench/pages/definitions.py --compare
 step "the edits that must fail" bench/pages/edits.py --compare
+step "files that read parts of layouts" bench/pages/layouts.py --compare
 step "the pictures of LAYOUTS" bench/pages/pictures.py
-step "the tests of words.py and links.py" pages_units
+step "the tests of the scripts of pages" pages_units
 step "plain words" bench/pages/words.py --compare
 step "links between pages" bench/pages/links.py
 if there rt "tests of crates"; then

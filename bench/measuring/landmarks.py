@@ -8,9 +8,12 @@ the highest LEAST with which any set passes, where that is the bound of the grou
 counts where the true set passes then, and each other one puts every data chunk that is there where the true one does: of what is lost no landmark
 on an image says anything, so `n-continue` with its slots turned by one, which is `ls` with P and Q exchanged, cannot be told from it.
 
+Arrays with NTFS have a volume each, which was full in most rounds, so that its table of file records is in many pieces. Some of level 6 have lost
+one disk alone. There any number of rows may be inconsistent, and one sector of each disk is tested, so parity says nothing either.
+
 Usage: bench/measuring/landmarks.py PROGRAM [--folder DIR] [--mebibytes N] [--files N] [--disks] [WORD..]
-Needs root, for loop mounts, and the Debian packages e2fsprogs, xfsprogs and btrfs-progs; for volumes of 2,048 MiB, which is what is usual, 11 GiB
-in the folder. In each round N files are written for each MiB, 2 where nothing is said, and a part of them is deleted again. With words only the
+Needs root, for loop mounts, and the Debian packages e2fsprogs, xfsprogs, btrfs-progs and ntfs-3g; for volumes of 2,048 MiB, which is what is usual,
+11 GiB in the folder. In each round N files are written for each MiB, 2 where nothing is said, and a part of them is deleted again. With words only the
 arrays in whose names all of them stand; with --disks they are made, and not looked at. The last line counts them; the status is 0 where all count.
 """
 
@@ -39,8 +42,11 @@ MAKERS = {
     "ext4": ["mke2fs", "-q", "-F", "-t", "ext4", "-O", "metadata_csum,64bit"],
     "xfs": ["mkfs.xfs", "-q", "-f"],
     "btrfs": ["mkfs.btrfs", "-q", "-f"],
+    "ntfs": ["mkntfs", "-q", "-F", "-f", "-s", "512", "-p", "0", "-H", "0", "-S", "0"],
 }
-KINDS = {"ext4": "extinode", "xfs": "xfs5", "btrfs": "btrfstree"}
+KINDS = {"ext4": "extinode", "xfs": "xfs5", "btrfs": "btrfstree", "ntfs": "mft"}
+# Of these each array has a volume of its own, which was full in all rounds but the last.
+FILLED = "ntfs"
 
 
 class Failed(Exception):
@@ -49,20 +55,25 @@ class Failed(Exception):
 
 @dataclasses.dataclass(frozen=True)
 class Array:
-    """An array: its level and members, the sectors of a chunk, the file system in it, and what is drawn for it."""
+    """An array: its level and members, the sectors of a chunk, the file system in it, how many disks are lost, and what is drawn for it."""
 
     level: int
     members: int
     chunk: int
     system: str
+    lost: int
 
     def name(self) -> str:
         """What it is called in the table."""
-        return f"{self.system}, level {self.level} of {self.members}, {self.parity()} lost, chunks of {self.chunk // 2} KiB"
+        return f"{self.system}, level {self.level} of {self.members}, {self.lost} lost, chunks of {self.chunk // 2} KiB"
 
     def parity(self) -> int:
         """How many disks it survives the loss of."""
         return {5: 1, 6: 2}[self.level]
+
+    def volume(self) -> str:
+        """What its volume is called, and drawn from."""
+        return self.name().replace(", ", "-").replace(" ", "-") if self.system == FILLED else self.system
 
     def drawn(self) -> random.Random:
         """What its order, its lost disks and its layout are drawn from."""
@@ -88,8 +99,12 @@ class Found:
     classes: int
 
 
-ARRAYS = [Array(5, members, chunk, system) for system in MAKERS for members in (4, 5, 6, 8) for chunk in (128, 1024)]
-ARRAYS += [Array(6, 8, chunk, system) for system in MAKERS for chunk in (128, 1024)]
+CHUNKS = (128, 1024)
+SYSTEMS = [system for system in MAKERS if system != FILLED]
+ARRAYS = [Array(5, members, chunk, system, 1) for system in SYSTEMS for members in (4, 5, 6, 8) for chunk in CHUNKS]
+ARRAYS += [Array(6, 8, chunk, system, 2) for system in SYSTEMS for chunk in CHUNKS]
+ARRAYS += [Array(5, members, chunk, FILLED, 1) for members, chunk in ((4, 128), (5, 1024), (6, 128), (8, 1024))]
+ARRAYS += [Array(6, members, chunk, FILLED, lost) for lost in (2, 1) for members, chunk in ((5, 128), (6, 1024), (8, 128))]
 
 
 def run(words: list[str], text: str | None = None) -> str:
@@ -146,18 +161,36 @@ def round_of_use(place: pathlib.Path, drawn: random.Random, number: int, mebibyt
                 file.truncate(path.stat().st_size // 2)
 
 
-def used_volume(system: str, folder: pathlib.Path, mebibytes: int, files_each: int) -> pathlib.Path:
+def filled(place: pathlib.Path, drawn: random.Random, number: int, mebibytes: int, files_each: int) -> None:
+    """Fills the volume with one file, deletes some others, writes notes into what they leave, and deletes the one file. So a table of files that has
+    to grow grows into many pieces."""
+    noise, full = drawn.randbytes(1 << 22), place / "full"
+    with contextlib.suppress(OSError), open(full, "wb", buffering=0) as file:
+        while file.write(noise) == len(noise):
+            pass
+    letters = sorted(place.rglob("letter*"))
+    for path in drawn.sample(letters, len(letters) // 8):
+        path.unlink()
+    with contextlib.suppress(OSError):
+        for count in range(files_each * mebibytes // 2):
+            (place / f"folder{drawn.randrange(60):02}" / f"note{number}-{count}").write_bytes(noise[:drawn.randint(1, 4000)])
+    full.unlink()
+
+
+def used_volume(array: Array, folder: pathlib.Path, mebibytes: int, files_each: int) -> pathlib.Path:
     """A volume with a file system that was used, made where it is not there yet."""
-    volume = folder / f"{system}.volume"
+    volume, rounds = folder / f"{array.volume()}.volume", 5
     if volume.exists():
         return volume
     with open(volume, "wb") as file:
         file.truncate(mebibytes << 20)
-    run([*MAKERS[system], str(volume)])
-    drawn = random.Random(system)
-    for number in range(5):
+    run([*MAKERS[array.system], str(volume)])
+    drawn = random.Random(array.volume())
+    for number in range(rounds):
         with mounted(volume) as place:
             round_of_use(place, drawn, number, mebibytes, files_each)
+            if array.system == FILLED and number + 1 < rounds:
+                filled(place, drawn, number, mebibytes, files_each)
     return volume
 
 
@@ -166,10 +199,10 @@ def used_volume(system: str, folder: pathlib.Path, mebibytes: int, files_each: i
 def made_array(array: Array, volume: pathlib.Path, folder: pathlib.Path) -> Made:
     """The disks of an array that are not lost, with noise before their data and holes where there are zeros."""
     drawn, size, zeros = array.drawn(), array.chunk * SECTOR, bytes(array.chunk * SECTOR)
-    count = array.members - array.parity()
+    count, left = array.members - array.parity(), array.members - array.lost
     pattern = drawn.choice(["ls", "ls", "la", "rs", "ra"])
-    there = sorted(drawn.sample(range(array.members), count))
-    order = drawn.sample(there, count)
+    there = sorted(drawn.sample(range(array.members), left))
+    order = drawn.sample(there, left)
     names = {slot: str(folder / f"disk{place}") for place, slot in enumerate(order)}
     with contextlib.ExitStack() as stack:
         data = stack.enter_context(open(volume, "rb"))
@@ -216,9 +249,11 @@ def passing(program: str, plan: str, images: list[str], size: int) -> list[str]:
 
 
 def surveyed(program: str, array: Array, made: Made) -> str:
-    """The plan of a survey that is told the level, the offset and the kind."""
-    asked = [f"levels={array.level}", f"members={array.members}", f"missing={array.parity()}", f"offsets={OFFSET}", f"kinds={KINDS[array.system]}"]
-    return run([program, "survey", *asked, *(["syndromes=after-q"] if array.level == 6 else []), "--", *made.images])
+    """The plan of a survey that is told the level, the offset and the kind, and lets rows be inconsistent if parity says anything."""
+    asked = [f"levels={array.level}", f"members={array.members}", f"missing={array.lost}", f"offsets={OFFSET}", f"kinds={KINDS[array.system]}"]
+    asked += ["syndromes=after-q"] if array.level == 6 else []
+    asked += [f"badrows={MANY}", "window=1"] if array.lost < array.parity() else []
+    return run([program, "survey", *asked, "--", *made.images])
 
 
 def told(program: str, array: Array, plan: str, made: Made) -> Found:
@@ -282,7 +317,7 @@ def counted(given: argparse.Namespace, folder: pathlib.Path) -> int:
     for array in wanted:
         place = pathlib.Path(tempfile.mkdtemp(prefix="array-", dir=folder))
         try:
-            made = made_array(array, used_volume(array.system, folder, given.mebibytes, given.files), place)
+            made = made_array(array, used_volume(array, folder, given.mebibytes, given.files), place)
             if given.disks:
                 print(f"made {array.name()}: {made.word}", flush=True)
             elif not tried(given.program, array, made):
@@ -292,6 +327,8 @@ def counted(given: argparse.Namespace, folder: pathlib.Path) -> int:
             wrong += 1
         finally:
             shutil.rmtree(place)
+            if array.system == FILLED:
+                (folder / f"{array.volume()}.volume").unlink(missing_ok=True)
     print(f"{len(wanted) - wrong} of {len(wanted)} arrays {'are made' if given.disks else 'are singled out'}")
     return wrong
 

@@ -9,7 +9,7 @@ uname -srm
 sed -n 's/^model name[^:]*: //p' /proc/cpuinfo | head -n 1
 for source in urandom zero; do
     for name in a b c d; do head -c "${megabytes}M" "/dev/$source" >"$name"; done
-    for kinds in gpt,ntfs,xfs,btrfs,lvm gpt,ntfs,xfs,btrfs,lvm,ext,extinode,xfs5,btrfstree; do
+    for kinds in gpt,ntfs,xfs,btrfs,lvm gpt,ntfs,xfs,btrfs,lvm,ext,extinode,xfs5,btrfstree,mft; do
         set -- "$program" survey kinds="$kinds" offsets=0 -- a b c d
         "$@" </dev/null | tail -n 1 | grep -qx 'done'
         awk -v m="$megabytes" -v s="$source" -v k="$kinds" -v c="$(best 5 /dev/null cat a b c d)" -v l="$(best 5 /dev/null "$@")" 'BEGIN {

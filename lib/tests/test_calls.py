@@ -246,7 +246,7 @@ class Surveyed(unittest.TestCase):
         refuses = put("", 1, "reraid: word 3 is not understood")
         standin = Standin(("reraid survey end=1 kinds=xfs5", put("reraid-plan 1\n")), ("reraid survey", refuses))
         self.assertEqual(surveys.known_kinds(standin, "a"), ("xfs5",))
-        self.assertEqual([words[3] for words, _ in standin.asked], ["kinds=extinode", "kinds=xfs5", "kinds=btrfstree"])
+        self.assertEqual([words[3] for words, _ in standin.asked], ["kinds=extinode", "kinds=xfs5", "kinds=btrfstree", "kinds=mft"])
 
     def test_made_once(self) -> None:
         self.surveys.plan(self.request)

@@ -169,6 +169,14 @@ class InImages(InFolder):
             found = heads.find_heads(file, 3, len(data))
         self.assertEqual(set(found), {Head("mbr", 3, 5), Head("ext", 3, 7), Head("luks", 3, 20), Head("bcache", 3, 22)})
 
+    def test_ntfs_with_large_clusters(self) -> None:
+        """A boot sector is a head if its clusters are larger than those that landmarks `boot` have: 248 is 256 sectors, 244 is 4,096."""
+        def boot(cluster: int, name: bytes = b"NTFS    ", end: bytes = b"\x55\xaa") -> bytes:
+            return (b"\xeb\x52\x90" + name + struct.pack("<HB", SECTOR, cluster)).ljust(SECTOR - 2, b"\0") + end
+        sectors = [boot(248), boot(244), boot(243), boot(249), boot(128), boot(8), boot(246, b"NTFS   x"), boot(246, end=b"\x55\xab"), boot(246)]
+        with open(self.file("a", b"".join(sectors)), "rb") as file:
+            self.assertEqual(heads.find_heads(file, 2, len(sectors) * SECTOR), tuple(Head("ntfs", 2, sector) for sector in (0, 1, 8)))
+
     def test_heads_at_the_start(self) -> None:
         data = mbr((0, 7, 2048, 100)) + bytes(SECTOR) + ext_super() + bytes(SECTOR)
         with open(self.file("a", data), "rb") as file:

@@ -232,7 +232,7 @@ class OneSurvey(Here):
         self.assertEqual([group.kind for group in surveys.seen(self.asked("gpt,ext")).groups], ["ext"])
         self.assertEqual([(group.kind, group.place) for group in surveys.seen(self.asked("extinode")).groups], [("extinode", 0)])
         self.assertEqual(runner.count("reraid survey"), 1)
-        self.assertIn("kinds=gpt,ntfs,xfs,btrfs,lvm,ext,extinode,xfs5,btrfstree", runner.asked[0][0])
+        self.assertIn("kinds=gpt,ntfs,xfs,btrfs,lvm,ext,extinode,xfs5,btrfstree,mft", runner.asked[0][0])
         self.assertEqual(runner.asked[0][0][-2:], ["a", "b"])
 
     def test_shared(self) -> None:
@@ -274,11 +274,26 @@ class OneSurvey(Here):
         self.assertEqual(found.end, self.END)
 
     def test_program_without_later_kinds(self) -> None:
-        """One that does not know the later kinds is asked for the others."""
-        answers = iter([put("", 1), put(plan_of(*self.MARKS[:1], end=self.END).text())])
-        runner = Standin(("reraid survey", lambda words, text: next(answers)))
-        LargeSurveys(runner, self.full()).seen(self.asked("ext"))
-        self.assertIn("kinds=gpt,ntfs,xfs,btrfs,lvm,ext", runner.asked[1][0])
+        """One that does not know the last of the kinds is asked for those before, down to none of the later ones."""
+        usual = "kinds=gpt,ntfs,xfs,btrfs,lvm,ext"
+        kinds = [usual + more for more in (",extinode,xfs5,btrfstree,mft", ",extinode,xfs5,btrfstree", ",extinode,xfs5", ",extinode", "")]
+        names = self.full()
+        for known in kinds:
+            answer = put(plan_of(*self.MARKS[:1], end=self.END).text())
+            runner = Standin((f"reraid survey end={self.END} {known}", answer), ("reraid survey", put("", 1)))
+            self.assertEqual([it.kind for it in LargeSurveys(runner, names).seen(self.asked("ext")).groups], ["ext"])
+            self.assertEqual([words[3] for words, _ in runner.asked], kinds[:kinds.index(known) + 1])
+
+    def test_full(self) -> None:
+        """A plan may lack landmarks if it has 4,096 of a kind or 32 groups, or as many file records in a group as a table gets of these: 1,365 of
+        three tables, of which one may have none."""
+        def full(kind: str, *counts: int) -> bool:
+            return surveying.is_full(plan_of(*((kind, [Mark(kind, 0, sector, "at:2") for sector in range(count)]) for count in counts)))
+        for kind, counts, wanted in (("ext", (4095,), False), ("ext", (4000, 96), True), ("lvm", (1,) * 31, False), ("lvm", (1,) * 32, True),
+                                     ("ext", (1365, 1365), False), ("mft", (1365, 1365, 1365), True), ("mft", (1365, 7, 1364), True),
+                                     ("mft", (1365, 9), True), ("mft", (1364, 1364, 1364), False), ("mft", (4095,), False), ("mft", (4096,), True),
+                                     ("mft", (127,), False), ("xfs5", (1365,), False)):
+            self.assertEqual(full(kind, *counts), wanted, (kind, counts))
 
     def test_padded(self) -> None:
         """Parts have a few sectors on both sides, within what is asked."""

@@ -242,9 +242,11 @@ class Asked(unittest.TestCase):
         """Of those with shapes and one offset for all images, if a superblock was seen whose kind the program knows."""
         plain, each = Target((0, 1), Span(0, 9), "why", SHAPES), Target((0, 1), Span(0, 9), "why", SHAPES, (("mode", "each"),))
         for target, kinds, group, asked in ((plain, ("xfs5",), "xfs", 1), (each, ("xfs5",), "xfs", 0), (plain, (), "xfs", 0),
-                                            (plain, ("xfs5",), "ext", 0), (Target((0, 1), Span(0, 9), "why", copied=True), ("xfs5",), "xfs", 0)):
+                                            (plain, ("xfs5",), "ext", 0), (Target((0, 1), Span(0, 9), "why", copied=True), ("xfs5",), "xfs", 0),
+                                            (plain, ("mft",), "ntfs", 1), (plain, ("xfs5",), "ntfs", 0)):
             search: Any = types.SimpleNamespace(options=Options(("a",)), tested=[])
-            scope: Any = types.SimpleNamespace(plan=types.SimpleNamespace(groups=[types.SimpleNamespace(kind=group)]))
+            scope: Any = types.SimpleNamespace(plan=types.SimpleNamespace(groups=[types.SimpleNamespace(kind=group)]),
+                                               evidence=types.SimpleNamespace(images=()))
             it = Evident(search)
             it.__dict__["later_kinds"] = kinds
             with mock.patch.object(proposed, "attempt", return_value=True) as attempt:

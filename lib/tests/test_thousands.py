@@ -9,6 +9,7 @@ from reraid_try.calls.commands import Answer
 from reraid_try.calls.plans import Plan
 from reraid_try.calls.program import LAST
 from reraid_try.checks.verdicts import Score
+from reraid_try.evidence.heads import Head
 from reraid_try.evidence.images import Image
 from reraid_try.options import Options
 from reraid_try.policy import plain, thousands
@@ -19,7 +20,7 @@ from reraid_try.policy.shapes import Shape
 from reraid_try.policy.steps import Step
 from reraid_try.units import SECTOR
 from tests.standin import InFolder, Standin, Told, plan_of, put
-from tests.test_policy import XFS
+from tests.test_policy import NTFS, XFS
 
 ZERO, FIVE, SIX = Shape("0", 3), Shape("5", 4, 1), Shape("6", 5, 2)
 SHAPES = ZERO, FIVE, SIX
@@ -40,6 +41,11 @@ def tree_group(count: int) -> tuple[str, list[tuple[str, int, int, str]]]:
 def pair_group(count: int) -> tuple[str, list[tuple[str, int, int, str]]]:
     """A group of so many pairs of inodes of an ext4."""
     return "extinode", [("extinode", 2, 2176 + 16 * number, f"at:{143 + 16 * number}") for number in range(count)]
+
+
+def record_group(count: int) -> tuple[str, list[tuple[str, int, int, str]]]:
+    """A group of so many file records of an NTFS, of which the first lies in the copy of the table's start too."""
+    return "mft", [("mft", number % 3, 2056 + 8 * number, f"at:{8 * number}" if number else "either:0:4096") for number in range(count)]
 
 
 def surveyed(*counts: int) -> tuple[Plan, Plan]:
@@ -116,6 +122,29 @@ class Thousands(InFolder):
         self.assertEqual([group.place for group in thousands.groups_of(scope, ZERO, ("extinode",))], [1])
         self.assertEqual(thousands.Most(ZERO, plan, plan.groups[1], 300).line(None),
                          "300 of 361 inode pairs of an ext4 lie at the places that the block group descriptors state")
+        plan = plan_of(NTFS, record_group(750), record_group(11), record_group(760), lengths=(8000,) * 3)
+        self.standin.rows = (("reraid survey", put(plan.text())),)
+        self.assertEqual([group.place for group in thousands.groups_of(scope, ZERO, ("mft",))], [3, 1])
+        self.assertEqual(thousands.Most(ZERO, plan, plan.groups[3], 700).line(640),
+                         "700 of 760 file records of an NTFS lie at the places that the runs of record 0 state; with the next layout, 640 do")
+
+    def test_bounds(self) -> None:
+        """Of what is listed so many landmarks of the group match at least as do at most, and all others may match nowhere."""
+        plan = plan_of(record_group(750), lengths=(8000,) * 3)
+        text = thousands.Most(ZERO, plan, plan.groups[0], 600).bounded.text()
+        self.assertEqual(text.split("group mft\n")[1].splitlines()[:2], ["bounds 750 600", "mark mft 0 2056 either:0:4096"])
+
+    def test_seen(self) -> None:
+        """The kinds of file systems whose superblocks were seen; of an NTFS whose clusters are large, whose boot sector was."""
+        def kinds(groups: Sequence[str], heads: Sequence[str]) -> list[str]:
+            image = Image("a", 1, 9, heads=tuple(Head(kind, 1, 0) for kind in heads))
+            scope: Any = types.SimpleNamespace(plan=types.SimpleNamespace(groups=[types.SimpleNamespace(kind=kind) for kind in groups]),
+                                               evidence=types.SimpleNamespace(images=(Image("b", 0, 9), image)))
+            return thousands.seen(scope)
+        for groups, heads, wanted in (((), (), []), (("gpt", "lvm"), ("mbr",), []), (("ntfs",), (), ["mft"]), ((), ("ntfs",), ["mft"]),
+                                      (("ntfs",), ("ntfs",), ["mft"]), ((), ("ext", "luks"), []), (("ext", "ntfs"), (), ["extinode", "mft"]),
+                                      (("btrfs", "xfs"), ("ntfs",), ["xfs5", "btrfstree", "mft"])):
+            self.assertEqual(kinds(groups, heads), wanted)
 
     def attempted(self, scope: Scope, whole: bool = False) -> tuple[bool, list[str], list[tuple[Step, list[str]]]]:
         """Whether the search is at its end, what was said, and the steps with the sets that were tested."""
@@ -192,10 +221,11 @@ class Asked(unittest.TestCase):
     def test_known(self) -> None:
         """Only where the program knows the kind and a superblock was seen is anything asked; what is content ends the steps of the target."""
         for kinds, groups in ((("xfs5",), ("gpt", "xfs")), (("btrfstree",), ("btrfs",)), (("xfs5", "btrfstree"), ("btrfs", "xfs")),
-                              (("extinode",), ("ext",))):
+                              (("extinode",), ("ext",)), (("mft",), ("gpt", "ntfs")), (("xfs5", "mft"), ("ntfs",))):
             self.assertEqual(self.by_thousands(kinds, groups)[:1], ["survey"])
         for kinds, groups, shapes in (((), ("xfs",), SHAPES), (("extinode",), ("xfs",), SHAPES), (("xfs5",), ("ext",), SHAPES),
-                                      (("xfs5",), ("btrfs",), SHAPES), (("btrfstree",), ("xfs",), SHAPES), (("xfs5",), ("xfs",), ())):
+                                      (("xfs5",), ("btrfs",), SHAPES), (("btrfstree",), ("xfs",), SHAPES), (("xfs5",), ("xfs",), ()),
+                                      (("xfs5",), ("ntfs",), SHAPES), (("mft",), ("xfs",), SHAPES), (("mft",), ("ntfs",), ())):
             self.assertEqual(self.by_thousands(kinds, groups, shapes), [])
 
     def asked(self, targets: Sequence[Target], untied: tuple[Shape, ...] = ()) -> list[tuple[Shape, ...]]:

@@ -10,7 +10,8 @@ from .plans import Group, Plan
 
 KINDS = "gpt,ntfs,xfs,btrfs,lvm,ext"
 # Kinds of later programs: whose groups have many marks, also in journals, so that most may misfit at the true set.
-LATER_KINDS = ("extinode", "xfs5", "btrfstree")
+FILE_RECORDS = "mft"
+LATER_KINDS = ("extinode", "xfs5", "btrfstree", FILE_RECORDS)
 # The status of words that are none of the program's.
 REFUSED = 1
 # As many offsets, or origins, as a plan has at most.

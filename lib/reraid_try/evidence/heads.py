@@ -79,6 +79,15 @@ def sniff(head: bytes) -> str | None:
     return tables.read_table(lambda place, count: head[place:place + count], len(head) // SECTOR).kind
 
 
+# What an NTFS with clusters of 128 KiB to 2 MiB is called, and the codes of these: no landmark but file records knows its boot sector.
+LARGE_NTFS, LARGE_CLUSTERS = "ntfs", range(244, 249)
+
+
+def is_large_ntfs(sector: bytes) -> bool:
+    """Return whether this is the boot sector of an NTFS with such clusters."""
+    return len(sector) == SECTOR and sector[3:11] == b"NTFS    " and sector[510:] == tables.SIGNATURE and sector[13] in LARGE_CLUSTERS
+
+
 @dataclasses.dataclass(frozen=True)
 class Head:
     """A sector of an image that looks like the head of something: what it is, its image, the sector at which that begins."""
@@ -95,6 +104,7 @@ SOUGHT: tuple[tuple[str, int, int, int, Callable[[bytes], bool]], ...] = (
     ("ext", 57, 0xEF, EXT_SECTORS, is_ext),
     ("luks", 0, 0x4C, 0, SIGNATURES[0].is_on),
     ("bitlocker", 3, 0x2D, 0, SIGNATURES[1].is_on),
+    (LARGE_NTFS, 3, ord("N"), 0, is_large_ntfs),
     (bcache.KIND, bcache.MAGIC_PLACE, bcache.MAGIC[0], bcache.PLACE, bcache.is_superblock),
 )
 # Those that say where a volume begins without saying anything of a level.

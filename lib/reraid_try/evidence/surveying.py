@@ -42,9 +42,11 @@ def of_kinds(plan: Plan, wanted: Collection[str]) -> Plan:
 
 
 def is_full(plan: Plan) -> bool:
-    """Return whether more landmarks may be there than a plan has."""
+    """Return whether more landmarks may be there than a plan has. Tables of file records share those of their kind, also tables without any."""
     marks, groups = collections.Counter(it.kind for it in plan.marks()), collections.Counter(it.kind for it in plan.groups)
-    return any(count >= MAX_MARKS for count in marks.values()) or any(count >= MAX_GROUPS for count in groups.values())
+    shares = {MAX_MARKS // count for count in range(max(1, groups[surveys.FILE_RECORDS]), MAX_GROUPS + 1)}
+    shared = any(it.kind == surveys.FILE_RECORDS and len(it.marks) in shares for it in plan.groups)
+    return shared or any(count >= MAX_MARKS for count in marks.values()) or any(count >= MAX_GROUPS for count in groups.values())
 
 
 def of_images(plan: Plan, numbers: Sequence[int]) -> Plan:
@@ -117,14 +119,16 @@ class LargeSurveys(Surveys):
         """Return the plan of a survey of these images."""
         request = Request().having(offsets=first, origins=0, end=end, logical=asked.logical, kinds=asked.kinds)
         answer = commands.run(request.words(names))
-        if answer.status == surveys.REFUSED:
-            # A program that does not know the later kinds.
-            answer = commands.run(request.having(kinds=surveys.KINDS).words(names))
+        for count in reversed(range(len(surveys.LATER_KINDS))):
+            if answer.status != surveys.REFUSED:
+                break
+            # A program that does not know the last of the kinds.
+            answer = commands.run(request.having(kinds=every_kind(count)).words(names))
         if not answer.good:
             raise refused(answer, "survey")
         return plans.read_plan(answer.out)
 
 
-def every_kind() -> str:
-    """Return all kinds of landmarks, as an operand."""
-    return ",".join([surveys.KINDS, *surveys.LATER_KINDS])
+def every_kind(later: int = len(surveys.LATER_KINDS)) -> str:
+    """Return all kinds of landmarks, with so many of the later ones, as an operand."""
+    return ",".join([surveys.KINDS, *surveys.LATER_KINDS[:later]])

@@ -1,5 +1,6 @@
-"""What landmarks tell that a file system has by the thousand, where parity tells nothing: of each inode of an ext4 or an XFS, and of each tree block
-of a btrfs, it is said where it lies, and of hundreds most do at the true set alone. Plain shapes are asked for the sets at which the most do."""
+"""What landmarks tell that a file system has by the thousand, where parity tells nothing: of each inode of an ext4 or an XFS, each tree block of a
+btrfs and each file record of an NTFS it is said where it lies, and of hundreds most do at the true set alone. Plain shapes are asked for the sets at
+which the most do."""
 
 import dataclasses
 from collections.abc import Sequence
@@ -10,7 +11,7 @@ from ..calls.plans import Bounds, Group, Plan
 from ..calls.program import Listing
 from ..calls.sets import LEVELS, read_word
 from ..errors import Refused
-from ..evidence import far, sampling
+from ..evidence import far, heads, sampling
 from ..units import SECTOR, counted
 from . import relaxations
 from .relaxations import RelaxationKind
@@ -29,19 +30,21 @@ MIN_MARKS, MAX_GROUPS, MAX_SETS, FEW_FIT = 12, 2, 64, 10
 @dataclasses.dataclass(frozen=True)
 class Marks:
     """Such landmarks: the kind of their groups, that of the superblocks by which a file system is seen without them, what one is called, whose it is,
-    and what says where they lie."""
+    and what says where they lie. A head of the kind `head` shows a file system too."""
 
     kind: str
     seen_by: str
     name: str
     system: str
     says: str
+    head: str | None = None
 
 
 PAIRS = Marks("extinode", "ext", "inode pair", "an ext4", "the block group descriptors state")
 INODES = Marks("xfs5", "xfs", "inode", "an XFS", "their numbers state")
 TREE_BLOCKS = Marks("btrfstree", "btrfs", "tree block", "a btrfs", "the chunk tree states")
-ALL = {it.kind: it for it in (PAIRS, INODES, TREE_BLOCKS)}
+RECORDS = Marks(surveys.FILE_RECORDS, "ntfs", "file record", "an NTFS", "the runs of record 0 state", heads.LARGE_NTFS)
+ALL = {it.kind: it for it in (PAIRS, INODES, TREE_BLOCKS, RECORDS)}
 
 
 @dataclasses.dataclass(frozen=True)
@@ -71,9 +74,10 @@ class Most:
 
 
 def seen(scope: Scope) -> list[str]:
-    """The kinds of whose file systems superblocks were seen."""
+    """Return the kinds whose file systems were seen, by superblocks or heads."""
     groups = {group.kind for group in scope.plan.groups}
-    return [it.kind for it in ALL.values() if it.seen_by in groups]
+    there = {head.kind for image in scope.evidence.images for head in image.heads}
+    return [it.kind for it in ALL.values() if it.seen_by in groups or it.head in there]
 
 
 def groups_of(scope: Scope, shape: Shape, kinds: Sequence[str], end: int | None = None) -> list[Group]:
@@ -96,8 +100,8 @@ def far_end(scope: Scope, shapes: Sequence[Shape]) -> int | None:
     if evidence.pairs or end <= evidence.end or not sampling.is_large(evidence.start, evidence.end):
         return None
     data = {shape.members - LEVELS[level].parity for shape in shapes for level in shape.levels.split(",") if level in LEVELS}
-    heads = tuple(far.Start(head.kind, place, head.sector) for place, image in enumerate(evidence.images) for head in image.heads)
-    asked = far.Asked(evidence.names, end, evidence.end, tuple(sorted(data)), heads)
+    there = tuple(far.Start(head.kind, place, head.sector) for place, image in enumerate(evidence.images) for head in image.heads)
+    asked = far.Asked(evidence.names, end, evidence.end, tuple(sorted(data)), there)
     return end if scope.surveys.far(evidence.start, evidence.base.get("logical", str(SECTOR)), scope.near_plan, asked) else None
 
 
@@ -142,7 +146,7 @@ def attempt_all(search: "Search", scope: Scope, shapes: Sequence[Shape], kinds: 
     try:
         end = far_end(scope, shapes)
         groups = groups_of(scope, shapes[0], kinds, end)
-        search.report.bar.show("counts matching inodes and tree blocks")
+        search.report.bar.show("counts matching inodes, tree blocks and file records")
         return any(attempt(search, scope, most) for group in groups for most in most_of(scope, shapes, group, kinds, end))
     except Refused as error:
         search.say_refused(error)

@@ -77,7 +77,7 @@ letter_q = sym (name_q 25 refl)
 pub dash : 45 ∷ [] ≡ cell_name 26
 dash = sym (name_spare 26 refl)
 
--- a digit is the name of an item, and two are, where the first is no zero
+-- a digit is the name of an item, and two are, if the first is no zero
 pub digit_is : (byte : ℕ) → 48 ≤ byte → byte ≤ 57 → byte ∷ [] ≡ cell_name (byte - 48)
 digit_is byte low high =
     let same : 48 + (byte - 48) ≡ byte = omega arith in

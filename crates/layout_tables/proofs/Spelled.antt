@@ -49,7 +49,7 @@ word_in_list : {A : Type 0} (separator : ℕ) (name : A → List ℕ) (IsPiece :
     word ++ separator ∷ rest ≡ name x ++ separator ∷ more → (word ≡ name x) × (rest ≡ more)
 word_in_list separator name IsPiece s word rest more x without spelled e = first_separator separator word (name x) rest more without (s.has_none x spelled) e
 
--- values up to a separator in a list are the same where the texts are
+-- values up to a separator in a list are the same if the texts are
 same_in_list : {A : Type 0} (separator : ℕ) (name : A → List ℕ) (IsPiece : A → Type 0) → IsPieceName separator name IsPiece → (x y : A) (rest more : List ℕ) → IsPiece x → IsPiece y →
     name x ++ separator ∷ rest ≡ name y ++ separator ∷ more → (x ≡ y) × (rest ≡ more)
 same_in_list separator name IsPiece s x y rest more is_x is_y e =

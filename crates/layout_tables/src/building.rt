@@ -9,7 +9,7 @@ use crate::pieces::Row;
 use crate::shape::{data_in, is_table, times};
 use crate::table::{Grid, RowBytes, Table};
 
-/// The table with these rows, or None where they make none.
+/// The table with these rows, or None if they make none.
 pub(crate) fn drawn(rows: &[Row]) -> Option<Table>
     ensures { MatchOption result
         (are_table (cells_in rows.now) ≡ false)

@@ -55,7 +55,8 @@ scripts() {
 }
 
 types() (
-    cd lib && mypy && mypy --strict --cache-dir /dev/null ../bench/pages/{prose,private_words,words,links,layouts,test_words,test_links,test_layouts}.py &&
+    cd lib && mypy && mypy --strict --cache-dir /dev/null \
+        ../bench/pages/{prose,private_words,words,links,layouts,reading_list,test_words,test_links,test_layouts,test_reading_list}.py &&
         { ! there flake8 "the layout of the modules" || flake8; }
 )
 
@@ -64,7 +65,7 @@ units() (
 )
 
 pages_units() (
-    cd bench/pages && python3 -B -m unittest -q test_words test_links test_layouts
+    cd bench/pages && python3 -B -m unittest -q test_words test_links test_layouts test_reading_list
 )
 
 rows() (

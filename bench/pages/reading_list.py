@@ -43,7 +43,7 @@ CLAUSE = re.compile(r" +(?:requires|ensures)\*? (?:(\w+) )?\{")
 # A row of the page: its number, term and definitions; and its lines for `list` and for `write`.
 ROW = re.compile(r"^(\| \d+ \|.*) \| ([\d,–]+) \| ([\d,–]+) \|$", re.M)
 NAMED = re.compile(r"`(\w+)/(\w+)`: (`\w+`(?:, `\w+`)*)")
-TOTALS_HEAD = "| definitions / files / lines | whole contract | without `reads` | only `printed` |"
+TOTALS_HEAD = "| definitions / files / lines | contract | without `reads` | only `printed` |"
 TOTALS = re.compile(re.escape(TOTALS_HEAD) + r"\n(?:\|.*\n)+")
 PAGE = "docs/PROMISES.md"
 # A line of these alone does not count.
@@ -139,6 +139,12 @@ SERVER = Program("reraid_nbd_cli", "reraid_nbd", frozenset(("write", "mirrorwrit
 def program_of(command: str) -> Program:
     """Return the contract to follow for a word of the command line."""
     return SERVER if command == "server" else Program("reraid_cli", "reraid", frozenset((command,)))
+
+
+def commands(house: "House") -> set[str]:
+    """Return what can be asked for: the commands that are verbs, and the server."""
+    verbs = house.source(BY_COMMAND[1].file).parts[BY_COMMAND[1].name]
+    return {name.lower() for part in verbs for name in part.pattern} | {"server"}
 
 
 def tokens(text: str, also_bound: Iterable[str] = ()) -> tuple[str, ...]:
@@ -293,7 +299,8 @@ class House:
                     names[here] = meant
                 elif meant:
                     variants[here] = meant
-        names |= {name: it.owner for name, it in variants.items()} | {name: Key(file, name) for name in parts}
+        # In Rust a constructor is not named without its type.
+        names |= ({} if rust else {name: it.owner for name, it in variants.items()}) | {name: Key(file, name) for name in parts}
         return Source(parts, names, variants)
 
 
@@ -344,7 +351,7 @@ def reading_list(house: House, program: Program, scope: Scope) -> list[Read]:
 
 def sums(reads: list[Read]) -> str:
     """Return how many definitions, files and lines there are."""
-    return f"{len(reads)} / {len({it.key.file for it in reads})} / {sum(it.lines for it in reads):,}"
+    return f"{len(reads):,} / {len({it.key.file for it in reads}):,} / {sum(it.lines for it in reads):,}"
 
 
 def totals(house: House) -> str:
@@ -352,9 +359,8 @@ def totals(house: House) -> str:
     lines = [TOTALS_HEAD, "|---|---|---|---|"]
     for command in ("list", "write", "server"):
         scopes = [Scope.CONTRACT] if command == "server" else list(Scope)
-        cells = [sums(reading_list(house, program_of(command), scope)) for scope in scopes]
-        name = "the server" if command == "server" else f"`{command}`"
-        lines.append(f"| {name} | {' | '.join(cells + ['–'] * (len(Scope) - len(cells)))} |")
+        cells = [sums(reading_list(house, program_of(command), scope)) for scope in scopes] + ["–"] * len(Scope)
+        lines.append(f"| {'server' if command == 'server' else f'`{command}`'} | {' | '.join(cells[:len(Scope)])} |")
     return "\n".join(lines) + "\n"
 
 
@@ -395,15 +401,17 @@ def with_numbers(house: House, text: str) -> str:
 
 
 def compared(house: House, text: str) -> list[str]:
-    """Return the lines of the page that have other numbers than today's."""
-    return [f"{PAGE}: {line}" for line, today in zip(text.splitlines(), with_numbers(house, text).splitlines()) if line != today]
+    """Return the lines of the page that have other numbers than today's, and the remedy."""
+    pairs = zip(text.splitlines(), with_numbers(house, text).splitlines(), strict=True)
+    found = [f"{PAGE}: {line}\n  today: {today}" for line, today in pairs if line != today]
+    return found + ["bench/pages/reading_list.py --update writes these numbers"] * bool(found)
 
 
 def listed(house: House, command: str, scope: Scope) -> str:
-    """Return the reading list of a command as a table of text."""
+    """Return the reading list of a command and its sums."""
     reads = reading_list(house, program_of(command), scope)
     lines = [f"{it.lines:4}  {it.key.file.removeprefix('crates/'):44} {it.key.name}" for it in reads]
-    return "\n".join([f"{command}, {scope.value}", *lines, f"definitions / files / lines: {sums(reads)}"])
+    return "\n".join([*lines, f"{command}, {scope.value}: {sums(reads)} definitions / files / lines"])
 
 
 def main(words: list[str]) -> int:
@@ -415,6 +423,8 @@ def main(words: list[str]) -> int:
         parser.add_argument(name, action="store_true")
     asked = parser.parse_args(words)
     house, page = House(TOP), TOP / PAGE
+    if unknown := sorted(set(asked.command) - commands(house)):
+        parser.error(f"no command: {', '.join(unknown)}; known are {', '.join(sorted(commands(house)))}")
     if asked.totals:
         print(totals(house), end="")
     if asked.update:

@@ -55,6 +55,14 @@ pub enum Command {
     },
 }
 
+/// The first word.
+pub enum Verb {
+    List,
+    /// A constructor with the name of a type.
+    Write(Command),
+    Size,
+}
+
 pub(crate) const MOST: usize = 3;
 """
 JOBS = """\
@@ -154,6 +162,16 @@ class Lists(Made):
         self.assertEqual(files["few"], "crates/jobs/specs/Kinds.antt")
         self.assertEqual(files["Size"], "crates/jobs/src/size.rt")
 
+    def test_constructors_of_sources(self) -> None:
+        """In a source a constructor's name leads nowhere, but the types in it do."""
+        source = House(self.top).source("crates/command_words/src/command.rt")
+        self.assertEqual([key.name for key in reading_list.meant(source, source.parts["Verb"][2:3])], ["Command"])
+        self.assertEqual([key.name for key in reading_list.meant(source, source.parts["Command"][1:])], ["Size"])
+
+    def test_commands(self) -> None:
+        """What can be asked for are the verbs and the server."""
+        self.assertEqual(reading_list.commands(House(self.top)), {"list", "write", "size", "server"})
+
     def test_totals(self) -> None:
         """The sums are definitions, files and lines."""
         reads = reading_list.reading_list(House(self.top), program_of("list"), Scope.CONTRACT)
@@ -209,7 +227,7 @@ class Page(Made):
         """Numbers are written anew, and lines with others are found."""
         house = House(self.top)
         self.assertEqual(reading_list.with_numbers(house, self.OLD), self.NEW)
-        self.assertEqual(len(reading_list.compared(house, self.OLD)), 2)
+        self.assertEqual(len(reading_list.compared(house, self.OLD)), 3)
         self.assertEqual(reading_list.compared(house, self.NEW), [])
 
     def test_missing_row(self) -> None:

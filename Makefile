@@ -30,12 +30,13 @@ gate: test
 # The unit tests of the Python modules. They need only Python.
 units:
 	cd lib && python3 -B -m unittest discover -s tests -t .
-	cd bench/pages && python3 -B -m unittest test_words test_links test_layouts
+	cd bench/pages && python3 -B -m unittest test_words test_links test_layouts test_reading_list
 
 # The types and the layout of the Python modules. It needs the Debian packages mypy and flake8.
 lint:
 	cd lib && mypy && flake8
-	cd bench/pages && mypy --strict --cache-dir /dev/null prose.py private_words.py words.py links.py layouts.py test_words.py test_links.py test_layouts.py
+	cd bench/pages && mypy --strict --cache-dir /dev/null prose.py private_words.py words.py links.py layouts.py reading_list.py \
+		test_words.py test_links.py test_layouts.py test_reading_list.py
 
 # Proves the programs and the crates below them. The executables are crates/reraid/out/reraid and crates/reraid_nbd/out/reraid_nbd.
 build:

@@ -3,8 +3,8 @@
 # - that VERSION is the number everywhere, that FORMATS has the texts of the programs, and that all scripts can be parsed
 # - the unit tests of the Python modules, their types and their layout
 # - the answers worked out by hand, with the reference in Python, and with crates that are built without a proof
-# - that the definitions and edits named by pages exist, that the pictures of LAYOUTS agree with disks.py, and that no more files than today
-#   read the parts of a layout
+# - that the definitions and edits named by pages exist, that PROMISES has the numbers of the reading lists, that the pictures of LAYOUTS agree
+#   with disks.py, and that no more files than today read the parts of a layout
 # - that pages and messages keep to the limits of words.py, and that links lead to headings that exist
 # - the commands of README as they are printed
 # It skips what is not installed, and prints what it skips. After each step it prints the seconds that it took, and the seconds of processor time,
@@ -55,7 +55,8 @@ scripts() {
 }
 
 types() (
-    cd lib && mypy && mypy --strict --cache-dir /dev/null ../bench/pages/{prose,private_words,words,links,layouts,test_words,test_links,test_layouts}.py &&
+    cd lib && mypy && mypy --strict --cache-dir /dev/null \
+        ../bench/pages/{prose,private_words,words,links,layouts,reading_list,test_words,test_links,test_layouts,test_reading_list}.py &&
         { ! there flake8 "the layout of the modules" || flake8; }
 )
 
@@ -64,7 +65,7 @@ units() (
 )
 
 pages_units() (
-    cd bench/pages && python3 -B -m unittest -q test_words test_links test_layouts
+    cd bench/pages && python3 -B -m unittest -q test_words test_links test_layouts test_reading_list
 )
 
 rows() (
@@ -81,6 +82,7 @@ step "the unit tests of the Python modules" units
 ! there mypy "types" || step "types" types
 step "answers worked out by hand, with the reference" hostile/differential/rows.py
 step "the definitions named by pages" bench/pages/definitions.py --compare
+step "the numbers of the reading lists" bench/pages/reading_list.py --compare
 step "the edits that must fail" bench/pages/edits.py --compare
 step "files that read parts of layouts" bench/pages/layouts.py --compare
 step "the pictures of LAYOUTS" bench/pages/pictures.py

@@ -244,7 +244,7 @@ _reraid_try() {
         --first) [[ $word =~ ^[0-9]+[KMGTkmgt]?$ ]] || COMPREPLY=("expected: a size with K, M, G or T behind it: 16G" " ") ;;
         --time | --every | -j | --case | --examiner) ;;
         *) if [[ $word == -* && ${words[-2]} != --room && ${words[-2]} != --log && ${words[-2]} != --report && ${words[-2]} != --resume ]]; then
-            _reraid_offer --json -x -j --members --levels --first --all --time --every --room --log --resume --report --case --examiner --hash --raw \
+            _reraid_offer -v --verbose --json -x -j --members --levels --first --all --time --every --room --log --resume --report --case --examiner --hash --raw \
                 --clean --help --version
         else
             _reraid_files

@@ -35,7 +35,7 @@ LIMITS_HEAD = """\
 LONG, TOO_LONG = 25, 35
 LONG_PERCENT = 5
 # Maximum number of words of all pages.
-MAX_WORDS = 43_800
+MAX_WORDS = 42_000
 HEAD = ("text", "words", "sentences", "over25", "over35", "opening", "where", "if", "private")
 # Not for "if": "where" after a place, or after a verb that takes an indirect question.
 PLACES = """place places folder folders directory directories line lines row rows sector sectors offset position positions point points machine page

@@ -93,7 +93,7 @@ def with_log(options: Options, words: Sequence[str]) -> int:
     """One run over the images of these options, with its log, and its status."""
     log = Log(options.log, ["reraid-try", *words]) if options.log else None
     try:
-        report = Report(options.as_json, options.every)
+        report = Report(options.as_json, options.every, options.shown)
         if log and log.had:
             report.say("log", f"{log.name} has {counted(log.had, 'byte')} already: the log is appended", log=log.name, had=log.had)
         return run_once(options, words, report, log)

@@ -11,7 +11,7 @@ from reraid_words import names
 from . import containers, units
 from .casefile import host, writing
 from .opening import Opened
-from .report.report import MINUTE
+from .report.report import MINUTE, Shown
 
 UNITS = {"K": units.KIB, "M": units.MIB, "G": units.GIB, "T": units.TIB}
 LEVELS = ("0", "5", "6", "10")
@@ -34,7 +34,7 @@ class Options:
     where that is not the usual part of it, `members` the numbers of members that are tried, None where hints say them, `report` the file of the
     page, `hashes` whether digests are taken, `raw` whether images in containers are searched as they are, `resume` the file that keeps what was
     answered, `opened` the containers that were opened, `every` after how many seconds a line says what is at work. `clean` asks to
-    remove what killed runs left, in place of a search. `case` and `examiner` stand in the report."""
+    remove what killed runs left, in place of a search. `case` and `examiner` stand in the report. `shown` is what is printed for people."""
 
     images: tuple[str, ...]
     as_json: bool = False
@@ -56,6 +56,7 @@ class Options:
     clean: bool = False
     case: str = ""
     examiner: str = ""
+    shown: Shown = Shown.RESULTS
 
     @property
     def question_seconds(self) -> int:
@@ -111,7 +112,8 @@ def parser() -> argparse.ArgumentParser:
     it.add_argument("images", nargs="*", metavar="IMAGE", help="an image of a disk; reraid-try uses IMAGE.map beside it as its ddrescue mapfile")
     it.add_argument("--version", action="version", version=f"reraid-try {host.version()}")
     it.add_argument("--json", action="store_true", help="print one JSON object per line")
-    it.add_argument("-x", action="store_true", help="print each search step with its command")
+    it.add_argument("-v", "--verbose", action="store_true", help="print the evidence and the search steps too")
+    it.add_argument("-x", action="store_true", help="as -v, and print the command of each search step")
     it.add_argument("-j", dest="jobs", type=positive, default=os.cpu_count() or 1, metavar="N",
                     help="number of commands that run concurrently (default: the number of processors)")
     it.add_argument("--members", type=members, metavar="LIST",
@@ -152,4 +154,5 @@ def read_words(words: Sequence[str]) -> Options:
     if not it.clean and not shutil.which("reraid"):
         asking.error("the program reraid is not on the PATH: install it, or add its folder")
     return Options(tuple(it.images), it.json, it.x, it.jobs, it.members, it.levels, units.ALL if it.all else it.first, it.time, it.room, it.log,
-                   it.report, it.hashes, it.raw, it.resume, every=it.every, clean=it.clean, case=it.case, examiner=it.examiner)
+                   it.report, it.hashes, it.raw, it.resume, every=it.every, clean=it.clean, case=it.case, examiner=it.examiner,
+                   shown=Shown.DETAILS if it.verbose or it.x else Shown.RESULTS)

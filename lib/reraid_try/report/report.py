@@ -1,6 +1,7 @@
 """What is printed: lines for people or objects for programs on standard output, and how far it is on standard error."""
 
 import contextlib
+import enum
 import errno
 import json
 import os
@@ -26,13 +27,23 @@ BAR, CLEAR = 20, "\r\033[K"
 WIDTH, TYPED = 80, ("    ", "  $ ")
 # The command whose whole reading is known before it ends.
 SURVEY = "reraid survey"
+# The events of evidence and search steps. People see their lines only if they ask for them; a step whose listing has a note, as if it timed out, is
+# printed in any case. Stale and damaged images, texts in place of data, timeouts and layouts that were not checked are other events.
+DETAILS = frozenset(("group", "hint", "metadata", "unlike", "pairs", "reason", "trial", "passed over", "goes on", "put off", "begins", "sound"))
+
+
+class Shown(enum.Enum):
+    """What a run prints for people: its results, with what counts against them, or the evidence and the search steps too."""
+
+    RESULTS = "results"
+    DETAILS = "details"
 
 
 class Report:
     """Prints what is seen, tried and found, in order, and keeps a record of it. `doing` is what is done, `total` the bytes that a survey reads."""
 
-    def __init__(self, as_json: bool = False, every: int = MINUTE) -> None:
-        self.as_json = as_json
+    def __init__(self, as_json: bool = False, every: int = MINUTE, shown: Shown = Shown.DETAILS) -> None:
+        self.as_json, self.shown = as_json, shown
         self.bar = Bar(every)
         self.record = Record()
         self.doing, self.total = "", 0
@@ -57,10 +68,16 @@ class Report:
         self.is_read = False
         self.bar.hang_up()
 
+    def is_shown(self, event: str, fields: dict[str, Any]) -> bool:
+        """Return whether an event is printed. Programs get each."""
+        return self.as_json or self.shown is Shown.DETAILS or event not in DETAILS or bool(fields.get("note"))
+
     def say(self, event: str, text: str, **fields: Any) -> None:
-        """One line: a text for people, or an object with these fields for programs."""
-        self.bar.clear()
+        """Print one line, if it is shown: a text for people, or an object with these fields for programs. The record keeps it in any case."""
         self.record.add(event, text, fields)
+        if not self.is_shown(event, fields):
+            return
+        self.bar.clear()
         self.put(json.dumps({"event": event, **(fields or {"text": text})}, ensure_ascii=False) if self.as_json else text)
 
     def tell(self, event: str, text: str = "", **fields: Any) -> None:

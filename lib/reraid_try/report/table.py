@@ -9,13 +9,14 @@ from ..checks.verdicts import Score
 from ..evidence.images import Image
 from ..units import counted
 from . import words
-from .report import Report
+from .report import Report, Shown
 
 LAST = """\
 reraid-try does not choose between candidates. The order is by rating, and then by the number of matching landmarks.
 ++: long files are intact or all data checksums match, and no checker reports errors.
 +: only a checker reports no errors, or ++ was lowered for a reason above. It may be wrong, so open files."""
 NONE = "no candidates"
+NONE_SHORT = f"{NONE}. -v prints the evidence and the search steps"
 MANY = 24
 # Before what belongs to a candidate.
 INDENT = " " * 8
@@ -72,5 +73,6 @@ def show(report: Report, tested: Sequence[Candidate], images: Sequence[Image]) -
         report.say("candidate", "\n".join(lines(number, it)), **fields(number, it))
     for said in others:
         report.say("rest", said)
-    report.say("end", LAST if order else NONE, candidates=len(order))
+    none = NONE if report.shown is Shown.DETAILS else NONE_SHORT
+    report.say("end", LAST if order else none, candidates=len(order))
     words.show(report, order, images)

@@ -1,5 +1,6 @@
 """What landmarks by the thousand tell: which shapes and sets they speak for, and when they are asked."""
 
+import dataclasses
 import types
 import unittest
 from collections.abc import Mapping, Sequence
@@ -171,7 +172,9 @@ class Thousands(InFolder):
         (step, words), = tested
         self.assertEqual((step.line(), words), ("RAID 5 of 4 disks, 1 missing; relaxed: only the inodes of an XFS, as many as match",
                                                 ["5:ls:none:128:2048:0,1,2,-"] * 2))
-        self.assertEqual((step.request, step.out, step.is_bare), (scope.asking.request(FIVE), frozenset({0}), False))
+        # What a fresh NTFS numbers 0 is left out of what is tested.
+        request = dataclasses.replace(scope.asking.request(FIVE), records=True)
+        self.assertEqual((step.request, step.out, step.is_bare), (request, frozenset({0}), False))
 
     def test_end(self) -> None:
         """A set that is whole ends the search; where no other set has any fits, none is named."""

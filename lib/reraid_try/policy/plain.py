@@ -244,12 +244,24 @@ def untied(told: Told, numbers: Sequence[int], span: Span, options: Options) -> 
     return [Target(tuple(numbers), span, why, shapes)] if shapes else []
 
 
+def unexplained(told: Told, numbers: Sequence[int], span: Span, options: Options) -> list[Target]:
+    """Return what is tried of images whose ties no level explains, as if more disks were missing than one tolerates: what landmarks by the thousand
+    tell. In a small volume few rows tie images by chance, as if the missing disks hold zeros there."""
+    shapes = without_parity(len(numbers), options) if any(it.group.level in LEVELS for it in told.known) else ()
+    why = f"{ties.named(numbers)}: no level explains what parity matches, so only landmarks by the thousand are tried"
+    return [Target(tuple(numbers), span, why, by_thousands=shapes)] if shapes else []
+
+
 def silent(told: Told, numbers: Sequence[int], options: Options) -> tuple[Shape, ...]:
     """The shapes at which parity tells nothing of images that nothing ties. That some hold the same in few rows ties none: parity is what another
     disk holds where the others are zeros."""
-    count = len(numbers)
     if not told.asked or any(it.group.level != COPIES or it.group.copies for it in told.known):
         return ()
+    return without_parity(len(numbers), options)
+
+
+def without_parity(count: int, options: Options) -> tuple[Shape, ...]:
+    """Return the shapes of so many images that leave no parity to test."""
     return allowed([Shape("0", count), Shape("5", count + 1, 1), Shape("6", count + 2, 2)], options)
 
 

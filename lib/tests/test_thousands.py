@@ -242,6 +242,7 @@ class Asked(unittest.TestCase):
         self.assertEqual(self.asked([apart, WHOLE], WHOLE.shapes), [SHAPES, ()])
         self.assertEqual(self.asked([each, WHOLE], WHOLE.shapes), [(), SHAPES])
         self.assertEqual(self.asked([apart]), [()])
+        self.assertEqual(self.asked([dataclasses.replace(apart, by_thousands=(FIVE,))]), [(FIVE,)])
         lost, there, loose = (Target((0, 1, 2), Span(0, 9), "why", shapes, tied=True)
                               for shapes in ((FIVE,), (Shape("5", 3),), (Shape("6", 4, 1), Shape("6", 4, 2, 1))))
         self.assertEqual(self.asked([lost, there, loose]), [(FIVE,), (), ()])

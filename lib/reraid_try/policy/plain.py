@@ -268,12 +268,12 @@ def without_parity(count: int, options: Options) -> tuple[Shape, ...]:
 def with_thousands(targets: Sequence[Target], untied_shapes: tuple[Shape, ...]) -> list[Target]:
     """These targets, of which landmarks by the thousand too are asked, at the shapes at which parity tells nothing: of images that are tied as where
     as many disks are lost as the level bears, and, at these shapes, of the first target over images that nothing ties. None where each image has an
-    offset of its own."""
+    offset of its own. What a target asks already stays."""
     first = next((target for target in targets if not target.tied and not target.is_each), None)
 
     def asked(target: Target) -> tuple[Shape, ...]:
         """The shapes at which a target asks them."""
         if target.tied and not target.is_each and not target.shapes[0].parity:
             return tuple(shape for shape in target.shapes if not shape.parity)
-        return untied_shapes if target is first else ()
+        return target.by_thousands or (untied_shapes if target is first else ())
     return [dataclasses.replace(target, by_thousands=asked(target)) for target in targets]

@@ -713,6 +713,17 @@ class Evidence(unittest.TestCase):
             self.assertEqual([target.why for target in it.targets(Part((0, 1, 2), Span(0, 300)))],
                              ["metadata", "unlike", "perhaps", "tied", "perhaps", "copied without []", "alike without []", "untied"])
 
+    def test_what_no_level_explains(self) -> None:
+        """Landmarks by the thousand are tried alone if nothing else of the images is; what metadata name comes before."""
+        it, _ = evident([Image(name, number, 300, first=0) for number, name in enumerate("abc")], Standin({}, Answer(None)), Options(("a",)))
+        whole = Target((0, 1, 2), Span(0, 300), "metadata")
+        for tied, named, wanted in ((0, 0, ["alone"]), (1, 0, ["tied"]), (0, 1, ["metadata", "alone"])):
+            with mock.patch.multiple(it, unlike=lambda *_: [], alike=lambda *_: [], by_metadata=lambda *_, named=named: [whole] * named), \
+                    mock.patch.multiple("reraid_try.policy.evident.plain", untied=lambda *_: [],
+                                        tied=lambda *_, tied=tied: [dataclasses.replace(whole, why="tied", shapes=(Shape("0", 3),))] * tied,
+                                        unexplained=lambda *_: [dataclasses.replace(whole, why="alone")]):
+                self.assertEqual([target.why for target in it.targets(Part((0, 1, 2), Span(0, 300)))], wanted)
+
     def test_encrypted_images_that_nothing_ties(self) -> None:
         """Only metadata give a reason for a step then; in a partition others may."""
         metadata = Target((0, 1, 2), Span(0, 300), "metadata", (Shape("0", 3),))

@@ -138,6 +138,19 @@ class Targets(unittest.TestCase):
             self.assertEqual(plain.silent(told, range(3), ALL), shapes)
             self.assertEqual(plain.untied(told, range(3), SPAN, ALL), [] if told.known or not shapes else [target])
 
+    def test_unexplained(self) -> None:
+        """Landmarks by the thousand tell of images that parity ties as no level can; not of copies, or of what is not asked for."""
+        lost, copies = group(3, "6", 0, old=tuple(Old(image, 9, 8) for image in range(3))), ImageGroup((0, 1), 500, 8, 900, "10", 0, copies=((0, 1),))
+        told = Told((Known(lost),), (), True)
+        self.assertEqual((lost.lost, plain.tied(told, range(3), SPAN, ALL)), (5, []))
+        target, = plain.unexplained(told, range(3), SPAN, ALL)
+        self.assertEqual((target.images, target.shapes, target.by_thousands), ((0, 1, 2), (), (Shape("0", 3), Shape("5", 4, 1), Shape("6", 5, 2))))
+        self.assertEqual(target.why, "images 0, 1, 2: no level explains what parity matches, so only landmarks by the thousand are tried")
+        self.assertEqual([it.by_thousands for it in plain.unexplained(told, range(3), SPAN, Options(("a",), levels=("5",)))], [(Shape("5", 4, 1),)])
+        for other, options in ((Told((Known(copies),), (2,), True), ALL), (Told((), (0, 1, 2), True), ALL), (Told(), ALL),
+                               (told, Options(("a",), levels=("10",)))):
+            self.assertEqual(plain.unexplained(other, range(3), SPAN, options), [])
+
     def test_apart(self) -> None:
         """The line says why copies are looked for, and which."""
         self.assertEqual([plain.apart_target(distance, range(3), SPAN).why for distance in (4096, 4098)],

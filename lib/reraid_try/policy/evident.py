@@ -158,6 +158,7 @@ class Evident:
         there = [image for image in self.search.images if image.first is not None]
         copied[1:1] = plain.halves_targets(found, there, part.span, self.options)
         others = [*early, *self.unlike(asked, found, part), *perhaps[:1], *tied, *perhaps[1:], *copied, *alike[len(early):], *untied]
+        others = others or plain.unexplained(found, part.images, part.span, self.options)
         others = plain.with_thousands(others, plain.silent(found, part.images, self.options))
         return [*self.by_metadata(part), *self.without_stopped(found, part), *others]
 

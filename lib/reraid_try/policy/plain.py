@@ -244,24 +244,36 @@ def untied(told: Told, numbers: Sequence[int], span: Span, options: Options) -> 
     return [Target(tuple(numbers), span, why, shapes)] if shapes else []
 
 
+def unexplained(told: Told, numbers: Sequence[int], span: Span, options: Options) -> list[Target]:
+    """Return what is tried of images whose ties no level explains, as if more disks were missing than one tolerates: what landmarks by the thousand
+    tell. In a small volume few rows tie images by chance, as if the missing disks hold zeros there."""
+    shapes = without_parity(len(numbers), options) if any(it.group.level in LEVELS for it in told.known) else ()
+    why = f"{ties.named(numbers)}: no level explains what parity matches, so only landmarks by the thousand are tried"
+    return [Target(tuple(numbers), span, why, by_thousands=shapes)] if shapes else []
+
+
 def silent(told: Told, numbers: Sequence[int], options: Options) -> tuple[Shape, ...]:
     """The shapes at which parity tells nothing of images that nothing ties. That some hold the same in few rows ties none: parity is what another
     disk holds where the others are zeros."""
-    count = len(numbers)
     if not told.asked or any(it.group.level != COPIES or it.group.copies for it in told.known):
         return ()
+    return without_parity(len(numbers), options)
+
+
+def without_parity(count: int, options: Options) -> tuple[Shape, ...]:
+    """Return the shapes of so many images that leave no parity to test."""
     return allowed([Shape("0", count), Shape("5", count + 1, 1), Shape("6", count + 2, 2)], options)
 
 
 def with_thousands(targets: Sequence[Target], untied_shapes: tuple[Shape, ...]) -> list[Target]:
     """These targets, of which landmarks by the thousand too are asked, at the shapes at which parity tells nothing: of images that are tied as where
     as many disks are lost as the level bears, and, at these shapes, of the first target over images that nothing ties. None where each image has an
-    offset of its own."""
+    offset of its own. What a target asks already stays."""
     first = next((target for target in targets if not target.tied and not target.is_each), None)
 
     def asked(target: Target) -> tuple[Shape, ...]:
         """The shapes at which a target asks them."""
         if target.tied and not target.is_each and not target.shapes[0].parity:
             return tuple(shape for shape in target.shapes if not shape.parity)
-        return untied_shapes if target is first else ()
+        return target.by_thousands or (untied_shapes if target is first else ())
     return [dataclasses.replace(target, by_thousands=asked(target)) for target in targets]

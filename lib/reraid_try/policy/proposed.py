@@ -116,7 +116,7 @@ def asked(search: "Search", scope: Scope, query: Query, kinds: Sequence[str]) ->
             return False
         others = [group.place for group in scope.plan.groups]
         alone = relaxations.told("only the landmarks that it is read off", RelaxationKind.ALONE, others)
-        step = search.say_step(scope, Step(query.shape, (alone,), scope.asking.request(query.shape)), listing)
+        step = search.say_step(scope, Step(query.shape, (alone,), thousands.tested_by(scope, query.shape)), listing)
         return search.take(scope, step, listing.sets, lambda it: (read_word(it.text), scope.word(it.text)))
     finally:
         search.why = before

@@ -10,6 +10,7 @@ from ..calls import surveys
 from ..calls.plans import Bounds, Group, Plan
 from ..calls.program import Listing
 from ..calls.sets import LEVELS, read_word
+from ..calls.surveys import Request
 from ..errors import Refused
 from ..evidence import far, heads, sampling
 from ..units import SECTOR, counted
@@ -93,6 +94,12 @@ def asked_of(scope: Scope, shape: Shape, kinds: Sequence[str], end: int | None =
     return scope.surveys.plan(request if end is None else request.having(end=end))
 
 
+def tested_by(scope: Scope, shape: Shape) -> Request:
+    """Return the request by which sets are tested that landmarks by the thousand tell. What a fresh NTFS numbers 0 is no reason to call its group one
+    that does not hold."""
+    return dataclasses.replace(scope.asking.request(shape), records=True)
+
+
 def far_end(scope: Scope, shapes: Sequence[Shape]) -> int | None:
     """The end of large images up to which tables of their file systems were surveyed, as far as these tell where they are; None if there are none."""
     evidence = scope.evidence
@@ -137,7 +144,7 @@ def taken(search: "Search", scope: Scope, most: Most, listing: Listing) -> bool:
     """Tests these sets as others are, by the landmarks that are not asked for here too; it says whether the search is at its end."""
     others = [group.place for group in scope.plan.groups]
     alone = relaxations.told(f"only the {most.marks.name}s of {most.marks.system}, as many as match", RelaxationKind.ALONE, others)
-    step = search.say_step(scope, Step(most.shape, (alone,), scope.asking.request(most.shape)), listing)
+    step = search.say_step(scope, Step(most.shape, (alone,), tested_by(scope, most.shape)), listing)
     return search.take(scope, step, listing.sets, lambda it: (read_word(it.text), scope.word(it.text)))
 
 

@@ -1,6 +1,7 @@
 """The first part of a search: what the images themselves say of their array is printed, and tried before all else."""
 
 import collections
+import contextlib
 import dataclasses
 import functools
 import itertools
@@ -16,7 +17,7 @@ from ..checks.verdicts import Score
 from ..errors import OutsideError, said
 from ..evidence import copies as copying
 from ..evidence import stopped as early_ends
-from ..evidence import gathered, hints, metadata, places, sampling, shared, shifts, ties, unlike
+from ..evidence import gathered, hints, metadata, patterns, places, sampling, shared, shifts, ties, unlike
 from ..evidence.image_groups import LEVEL_5, LEVEL_6
 from ..evidence.images import Image
 from ..evidence.places import Places
@@ -338,7 +339,11 @@ class Evident:
         if not asked or target.is_each and not target.moved or shape.levels not in (LEVEL_5, LEVEL_6):
             return None
         found = self.zero_rows(target)
-        return Places(found, target.images, shape.levels, shape.members, self.unread(target)) if found else None
+        if not found:
+            return None
+        names = {number: self.search.images[number].name for number in target.images}
+        with contextlib.closing(patterns.Sectors(names, target.moved)) as sectors:
+            return Places(found, target.images, shape.levels, shape.members, self.unread(target), sectors.repeat)
 
     def zero_rows(self, target: Target) -> Relations | None:
         """The relations of many rows of the images of a target, kept until others are asked for; None where they were not had in their time."""

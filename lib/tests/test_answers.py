@@ -261,6 +261,20 @@ class ByItself(Disks):
         self.assertEqual(self.kind(*labels), Kind.ZFS)
         self.assertIsNone(self.kind(labels[0], self.image(1, (16 * KIB, zfs(b"tank")), (MIB, ext(9000)))))
 
+    def test_parity_of_zfs(self) -> None:
+        """A raidz has parity of its own, which holds in a part of the rows. Parity of an array holds in nearly all, and it lies over some labels."""
+        places = 16 * KIB, 272 * KIB, SIZE - 496 * KIB, SIZE - 240 * KIB
+        disks = [self.image(number, *((place, zfs(b"tank")) for place in places)) for number in range(3)]
+
+        def known(loose: int) -> list[Known]:
+            """Parity that holds in 96 rows and fails in some."""
+            return [Known(Family((0, 1, 2), 96, 0, 99, "5", 1, loose=loose))]
+        self.assertEqual([self.kind(*disks, known=known(loose)) for loose in (5, 6, 90)], [None, Kind.ZFS, Kind.ZFS])
+        disks[2] = self.image(2, *((place, zfs(b"tank")) for place in places[:3]))
+        self.assertIsNone(self.kind(*disks, known=known(90)))
+        some = [self.image(number, (0, btrfs(number + 1, 3))) for number in range(3)]
+        self.assertIsNone(self.kind(*some, verdict=Verdict(), known=known(90)))
+
     def test_a_linear_volume(self) -> None:
         disks = [self.image(number, (0, physical(name, 8192, "ab"[1 - number] * 32))) for number, name in enumerate(("a" * 32, "b" * 32))]
         self.assertEqual(self.kind(*disks), Kind.LINEAR)

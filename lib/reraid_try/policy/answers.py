@@ -10,6 +10,7 @@ from ..checks.alone import Alone, is_sound
 from ..checks.candidates import Candidate
 from ..checks.verdicts import Verdict
 from ..evidence import entropy, fills, homes, linear, pools
+from ..evidence.families import Family
 from ..evidence.homes import Home
 from ..evidence.images import Image
 from ..evidence.linear import Group
@@ -22,6 +23,8 @@ from ..units import SECTOR, counted
 BTRFS_OPTIONS = "ro,rescue=nologreplay"
 ENCRYPTED = {"luks": "LUKS", "bitlocker": "BitLocker"}
 CLOSED = ("crypto_LUKS", "BitLocker")
+# Parity of ZFS fails in one of so many of the rows in which it holds, or in more.
+FEW_LOOSE = 16
 GO_ON = "  (to search for an array nevertheless, give --levels or --members)"
 
 
@@ -173,7 +176,15 @@ class Answers:
         if found is None or any(home.kind != "btrfs" or found.kind is Kind.ZFS for home in homes.all_homes(self.different)):
             return None
         told = self.ties.told([image.number for image in self.different], 0, min(image.sectors for image in self.different))
-        return None if fills.telling(told) else found
+        return found if all(self.is_of_pool(it, found.kind) for it in fills.telling(told)) else None
+
+    def is_of_pool(self, family: Family, kind: Kind) -> bool:
+        """Return whether the parity of some images is that of a pool of ZFS, which has parity of its own in each block. It holds in a part of the
+        rows, and all labels are there."""
+        if kind is not Kind.ZFS or FEW_LOOSE * family.loose < family.rows:
+            return False
+        found = [(image, pools.zfs_device(image)) for image in self.different if image.number in family.images]
+        return all(device is not None and pools.has_all_labels(image, device) for image, device in found)
 
     def by_itself(self) -> Answer | None:
         """Return the answer if each image holds a file system by itself, or if all hold the same."""

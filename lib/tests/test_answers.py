@@ -268,7 +268,7 @@ class ByItself(Disks):
 
         def known(loose: int) -> list[Known]:
             """Parity that holds in 96 rows and fails in some."""
-            return [Known(Family((0, 1, 2), 96, 0, 99, "5", 1, loose=loose))]
+            return [Known(ImageGroup((0, 1, 2), 96, 0, 99, "5", 1, loose=loose))]
         self.assertEqual([self.kind(*disks, known=known(loose)) for loose in (5, 6, 90)], [None, Kind.ZFS, Kind.ZFS])
         disks[2] = self.image(2, *((place, zfs(b"tank")) for place in places[:3]))
         self.assertIsNone(self.kind(*disks, known=known(90)))

@@ -10,7 +10,7 @@ from ..checks.alone import Alone, is_sound
 from ..checks.candidates import Candidate
 from ..checks.verdicts import Verdict
 from ..evidence import entropy, fills, homes, linear, pools
-from ..evidence.families import Family
+from ..evidence.image_groups import ImageGroup
 from ..evidence.homes import Home
 from ..evidence.images import Image
 from ..evidence.linear import Group
@@ -178,12 +178,12 @@ class Answers:
         told = self.ties.told([image.number for image in self.different], 0, min(image.sectors for image in self.different))
         return found if all(self.is_of_pool(it, found.kind) for it in fills.telling(told)) else None
 
-    def is_of_pool(self, family: Family, kind: Kind) -> bool:
+    def is_of_pool(self, group: ImageGroup, kind: Kind) -> bool:
         """Return whether the parity of some images is that of a pool of ZFS, which has parity of its own in each block. It holds in a part of the
         rows, and all labels are there."""
-        if kind is not Kind.ZFS or FEW_LOOSE * family.loose < family.rows:
+        if kind is not Kind.ZFS or FEW_LOOSE * group.loose < group.rows:
             return False
-        found = [(image, pools.zfs_device(image)) for image in self.different if image.number in family.images]
+        found = [(image, pools.zfs_device(image)) for image in self.different if image.number in group.images]
         return all(device is not None and pools.has_all_labels(image, device) for image, device in found)
 
     def by_itself(self) -> Answer | None:

@@ -754,6 +754,23 @@ class Evidence(unittest.TestCase):
         target, = found.targets(Part(tuple(range(6)), Span(0, 300)))
         self.assertEqual((target.images, found.search.stale), ((0, 1, 2, 3, 5), {4}))
 
+    def test_states_of_one_disk(self) -> None:
+        """Beside a disk that failed and the one that took its place each is left out in turn: after RAID 10 if nothing ties the others."""
+        rnd = random.Random(5)
+        made = rows.without(rows.striped(rnd, 5, 5, 600, chunk=16), 2)
+        for number, row in enumerate(made):
+            row.append(row[1] if number < 400 else rows.sector(rnd))
+        runner, images = disks(made)
+        with mock.patch("reraid_try.policy.evident.unlike.found_shifts", return_value=Distances()), \
+                mock.patch("reraid_try.policy.evident.metadata.lvm_starts", return_value={}):
+            found, said = self.targets(images, runner)
+        shapes = (Shape("0", 4), Shape("5", 5, 1), Shape("6", 6, 2))
+        states = [(it.images, it.shapes, it.by_thousands, it.states) for it in found if it.states]
+        self.assertEqual(states, [((0, 2, 3, 4), shapes, shapes, (1, 4)), ((0, 1, 2, 3), shapes, shapes, (4, 1))])
+        self.assertEqual([bool(it.copied) for it in found if it.states or it.copied][-2:], [False, False])
+        self.assertIn("images 1 and 4 hold the same data in many rows and different data in others: perhaps one is an older state of the other, as "
+                      "of a disk that was replaced or imaged twice", said)
+
     def test_a_reshape(self) -> None:
         """Where it stands is said, and kept in mind for the end, once; all five disks are tried."""
         rnd = random.Random(12)

@@ -3,6 +3,7 @@
 import dataclasses
 import unittest
 
+from reraid_try.calls.sets import read_word
 from reraid_try.evidence.image_groups import ImageGroup, Old
 from reraid_try.evidence.metadata import Member
 from reraid_try.evidence.ties import Known, Told
@@ -150,6 +151,25 @@ class Targets(unittest.TestCase):
         self.assertEqual(dict(target.asked) | {"window": ""}, {"mode": "each", "offsets": "16,64", "window": ""})
         self.assertTrue(target.is_each)
         self.assertEqual(target.shapes, (Shape("5", 3),))
+
+    def test_states_of_one_disk(self) -> None:
+        """Without one of two states of a disk all is tried but RAID 10, and beside what is found the other state in the same slot."""
+        group = ImageGroup((0, 1, 3, 4, 5), 700, 8, 900, "10", 0, states=(0, 5))
+        self.assertEqual(plain.states(Told((Known(group),), (), True)), (0, 5))
+        self.assertIsNone(plain.states(Told((Known(dataclasses.replace(group, states=None)),), (), True)))
+        rest = Told((Known(ImageGroup((1, 3, 4, 5), 500, 8, 900, "5", 0)),), (), True)
+        target, = plain.without_state(rest, (1, 3, 4, 5), (0, 5), SPAN, ALL)
+        self.assertEqual((target.images, target.shapes, target.by_thousands), ((1, 3, 4, 5), (Shape("5", 5, 1),), (Shape("5", 5, 1),)))
+        self.assertIn("without image 0, which may be an older state of image 5", target.why)
+        silent, = plain.without_state(Told((), (1, 3, 4, 5), True), (1, 3, 4, 5), (0, 5), SPAN, ALL)
+        self.assertEqual(silent.shapes, (Shape("0", 4), Shape("5", 5, 1), Shape("6", 6, 2)))
+        word = read_word("5:la:none:512:64:4,5,3,-,1")
+        other = plain.other_state(target, word, target.shapes[0])
+        assert other
+        self.assertEqual((other.word, other.images), ("5:la:none:512:64:4,0,3,-,1", (0, 1, 3, 4)))
+        self.assertEqual(dict(other.asked), {"offsets": "64", "chunks": "512"})
+        self.assertIsNone(plain.other_state(target, read_word("5:la:none:512:64:4,-,3,-,1"), target.shapes[0]))
+        self.assertIsNone(plain.other_state(dataclasses.replace(target, states=None), word, target.shapes[0]))
 
     def test_guessed(self) -> None:
         """Beginnings that parity does not show are those of a level that has lost as many disks as it bears."""

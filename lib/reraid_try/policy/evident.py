@@ -160,7 +160,21 @@ class Evident:
         copied[1:1] = plain.halves_targets(found, there, part.span, self.options)
         others = [*early, *self.unlike(asked, found, part), *perhaps[:1], *tied, *perhaps[1:], *copied, *alike[len(early):], *untied]
         others = plain.with_thousands(others, plain.silent(found, part.images, self.options))
+        # Copies of two images alone may be those of a RAID 10, which is soon looked for.
+        alone = all(len(it.group.images) == 2 for it in found.known if it.group.states)
+        others[len(others) - len(untied) if alone else 0:0] = self.without_states(found, part)
         return [*self.by_metadata(part), *self.without_stopped(found, part), *others]
+
+    def without_states(self, found: Told, part: Part) -> list[Target]:
+        """What is tried of a part without each in turn of two images that may be states of one disk, after what is known of the rest is printed."""
+        targets: list[Target] = []
+        states = plain.states(found) or ()
+        for out, kept in itertools.permutations(states, 2):
+            rest = tuple(number for number in part.images if number != out)
+            told = self.asked().told(rest, part.span.first, part.span.end)
+            self.say("relation", [f"without image {out}: {line}" for line in ties.lines(told)])
+            targets += plain.without_state(told, rest, (out, kept), part.span, self.options)
+        return targets
 
     def without_stopped(self, found: Told, part: Part) -> list[Target]:
         """What is tried of a part without images whose imaging may have stopped, which are named."""
@@ -266,13 +280,20 @@ class Evident:
                 later.append(Later(target, scope))
             else:
                 self.relaxed(scope, target, before)
+        self.test_other_states(target, before)
         search.why = ""
         return any(map(enough, self.since(before)))
 
+    def test_other_states(self, target: Target, before: int) -> None:
+        """Tests each set of a target that has a rating with the other state of an image in its slot, so that their files are compared."""
+        for it in [it for it in self.since(before) if target.states and it.score >= Score.CHECKED]:
+            if other := plain.other_state(target, it.word, it.step.shape):
+                self.seek(other, [])
+
     def test_named(self, scope: Scope, target: Target, text: str) -> None:
-        """Tests the set that metadata name."""
+        """Tests the set that metadata name, or that another state of a disk gives."""
         word, shape = read_word(text).over(target.images), target.shapes[0]
-        listing = Listing((Ranked(0, word.text),), 1, True, "named by metadata")
+        listing = Listing((Ranked(0, word.text),), 1, True, "with another state of a disk" if target.states else "named by metadata")
         if word.copying:
             step = Step(shape, copied=Copied((word.copying,), shape.members, shape.missing))
         else:

@@ -3,7 +3,7 @@
 import dataclasses
 from collections.abc import Iterable, Iterator, Sequence
 
-from ..calls.sets import LEVELS, read_word
+from ..calls.sets import LEVELS, Word, read_word
 from ..evidence import metadata, shifts, ties
 from ..evidence.image_groups import COPIES, LEVEL_5, ImageGroup
 from ..evidence.gathered import MAX_WINDOW
@@ -56,7 +56,7 @@ class Target:
     members that may be missing where copies are asked for; `by_thousands` are the shapes at
     which landmarks by the thousand are asked where they fit, before all else; `unsound` is tried besides, whatever is found without some images;
     `first` is how many bytes of each image are read for it, None where it is as many as for all others; `word` is the one set that is tried; `halves`
-    are pairs of which each image is left out in turn."""
+    are pairs of which each image is left out in turn; `states` are an image that is left out, and the one of which it may be another state."""
 
     images: tuple[int, ...]
     span: Span
@@ -74,6 +74,7 @@ class Target:
     first: int | None = None
     word: str | None = None
     halves: tuple[tuple[int, int], ...] = ()
+    states: tuple[int, int] | None = None
 
     @property
     def is_each(self) -> bool:
@@ -229,6 +230,31 @@ def halves_targets(told: Told, images: Sequence[Image], span: Span, options: Opt
         return []
     said = "; ".join(f"images {one} and {other} hold the same in most rows: one may be an older state of the other" for one, other in halves)
     return [Target(tuple(image.number for image in images), span, f"{said}, so each is left out in turn", copied=True, halves=halves)]
+
+
+def states(told: Told) -> tuple[int, int] | None:
+    """Return the two images of which one may be an older state of the other; None if there are none."""
+    return next((it.group.states for it in told.known if it.group.states), None)
+
+
+def without_state(told: Told, numbers: Sequence[int], out: tuple[int, int], span: Span, options: Options) -> list[Target]:
+    """What is tried of images without one that may be another state of the second, by what relations tell of the rest: arrays with parity, and RAID
+    0. RAID 10 is tried by itself."""
+    found = [*tied(told, numbers, span, options), *untied(told, numbers, span, options)]
+    why = f"without image {out[0]}, which may be an older state of image {out[1]}"
+    found = [dataclasses.replace(it, why=f"{why}, {it.why}", states=out) for it in found]
+    return with_thousands(found, silent(told, numbers, options))
+
+
+def other_state(target: Target, word: Word, shape: Shape) -> Target | None:
+    """Return what is tried beside a set: the set with the other state of an image. None if the set has no image of which there are two states."""
+    out, kept = target.states or (None, None)
+    if out is None or kept not in word.images or word.is_each:
+        return None
+    other = word.having(tuple(out if slot == kept else slot for slot in word.slots))
+    asked = (("offsets", str(word.offset)), ("chunks", str(word.chunk)))
+    return Target(tuple(sorted(other.images)), target.span, f"the layout that was found, with image {out} in place of image {kept}", (shape,), asked,
+                  word=other.text, states=(out, out))
 
 
 def apart_target(distance: int, numbers: Sequence[int], span: Span) -> Target:

@@ -179,6 +179,15 @@ class Targets(unittest.TestCase):
         self.assertEqual(target.why, "the distances between equal data on the images suggest that their data begin at sectors 64, 16, 16")
         self.assertEqual(plain.guessed_targets((64, 16, 16), range(3), SPAN, Options(("a",), levels=("0", "10"))), [])
 
+    def test_images_of_a_partition_alone(self) -> None:
+        """Their data begin at other sectors than those of whole disks; as many disks are lost as a level bears, or none of a RAID 0."""
+        first, second = plain.moved_targets([(4096, 2048), (2048, 0)], (0, 3), SPAN, ALL)
+        self.assertEqual((first.images, first.moved, first.is_each, first.tied, second.moved), ((0, 3), (4096, 2048), True, False, (2048, 0)))
+        self.assertEqual(first.shapes, (Shape("5", 3, 1), Shape("6", 4, 2), Shape("0", 2)))
+        self.assertEqual(dict(first.asked)["offsets"], "2048,4096")
+        self.assertIn("images 0, 3: some are of a partition alone, so their data begin at sectors 4096, 2048", first.why)
+        self.assertEqual(plain.moved_targets([(4096, 2048)], (0, 3), SPAN, Options(("a",), levels=("10",))), [])
+
     def test_metadata(self) -> None:
         """What metadata name: layout, chunk and offset; a disk is lost where a slot is not named, and an old one is left out."""
         seen = ((0, 3, 9), (2, 0, 9), (3, 1, 9), (5, 2, 4))

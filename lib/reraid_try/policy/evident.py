@@ -52,10 +52,11 @@ class Later:
 
 @dataclasses.dataclass(frozen=True)
 class Part:
-    """A part of some disks, by their numbers, that is searched for itself."""
+    """A part of some disks, by their numbers, that is searched for itself. Of a partition `alone` are images that may be of it alone."""
 
     images: tuple[int, ...]
     span: Span
+    alone: tuple[int, ...] = ()
 
 
 def is_closed(it: Candidate) -> bool:
@@ -133,7 +134,7 @@ class Evident:
             report.say("place", f"{place.line()}{said}", first=place.first, sectors=place.count, images=list(place.images), copied=place.copied,
                        empty=place.empty, searched=place in searched)
         for place in searched:
-            yield Part(place.images, Span(place.first, place.end, True))
+            yield Part(place.images, Span(place.first, place.end, True), tuple(it.number for it in shared.of_partition(place, images)))
         if not searched and images:
             yield Part(tuple(image.number for image in images), Span(0, min(image.sectors for image in images)))
 
@@ -163,7 +164,20 @@ class Evident:
         # Copies of two images alone may be those of a RAID 10, which is soon looked for.
         alone = all(len(it.group.images) == 2 for it in found.known if it.group.states)
         others[len(others) - len(untied) if alone else 0:0] = self.without_states(found, part)
-        return [*self.by_metadata(part), *self.without_stopped(found, part), *others]
+        return [*self.by_metadata(part), *self.of_partition(part), *self.without_stopped(found, part), *others]
+
+    def of_partition(self, part: Part) -> list[Target]:
+        """What is tried of a partition of whole disks together with images that are of it alone: data begin there at another sector."""
+        if not part.alone:
+            return []
+        images = [self.search.images[number] for number in sorted((*part.images, *part.alone))]
+        numbers, way = [image.number for image in images], [0 if image.number in part.alone else part.span.first for image in images]
+        self.say("place", [f"{ties.named(part.alone)}: no partition table, and shorter than whole disks. Perhaps of the partition alone"])
+        span = Span(0, min(image.sectors for image in images))
+        tied = unlike.moved(self.asked(), images, way, span.end)
+        if tied:
+            return [plain.unlike_target(it, numbers, span, self.options) for it in tied]
+        return plain.moved_targets(unlike.silent(images, way), numbers, span, self.options)
 
     def without_states(self, found: Told, part: Part) -> list[Target]:
         """What is tried of a part without each in turn of two images that may be states of one disk, after what is known of the rest is printed."""

@@ -145,6 +145,15 @@ def guessed_targets(offsets: Sequence[int], numbers: Sequence[int], span: Span, 
     return [Target(tuple(numbers), span, why, shapes, asked)] if shapes else []
 
 
+def moved_targets(offsets: Iterable[tuple[int, ...]], numbers: Sequence[int], span: Span, options: Options) -> list[Target]:
+    """What is tried of images of which some are of a partition alone, if parity does not tie them, by where their data may begin."""
+    count = len(numbers)
+    shapes = allowed([Shape("5", count + 1, 1), Shape("6", count + 2, 2), Shape("0", count)], options)
+    why = f"{ties.named(numbers)}: some are of a partition alone, so their data begin at sectors"
+    return [Target(tuple(numbers), span, f"{why} {', '.join(map(str, it))}", shapes,
+                   (("mode", "each"), ("offsets", listed(it)), ("window", str(EACH_WINDOW))), moved=it) for it in offsets if shapes]
+
+
 def metadata_target(members: Sequence[Member], span: Span, options: Options) -> Target | None:
     """What is tried of images whose metadata name an array; None where a set has no words for it, or level 10 is named, of which copies tell."""
     left_out = metadata.old(members)

@@ -200,6 +200,22 @@ class Targets(unittest.TestCase):
         self.assertIsNone(plain.metadata_target([Member(0, "md 1.2", "a", "raid10", 4, "near=2", 128, 0, 2048)], SPAN, ALL))
         self.assertIsNone(plain.metadata_target([Member(0, "md 1.2", "a", "raid1", 2, "", None, 0, 2048)], SPAN, ALL))
 
+    def test_metadata_on_few_disks(self) -> None:
+        """If more disks would be missing than the level bears, images without metadata are the others, and nothing is tried if these do not do."""
+        said = [Member(0, "md 1.2", "a", "raid5", 4, "left-symmetric", 128, 1, 2048, 9)]
+        cases: list[tuple[list[int], tuple[int, ...], tuple[Shape, ...]]] = [
+            ([1, 2, 3], (0, 1, 2, 3), (Shape("5", 4),)), ([2, 3], (0, 2, 3), (Shape("5", 4, 1),)), ([3], (0, 3), ()), ([], (0,), ()),
+            ([1, 2, 3, 4], (0, 1, 2, 3, 4), ())]
+        for bare, images, shapes in cases:
+            target = plain.metadata_target(said, SPAN, ALL, bare)
+            assert target
+            self.assertEqual((target.images, target.shapes), (images, shapes))
+        three = [dataclasses.replace(said[0], image=image, slot=image) for image in range(3)]
+        target = plain.metadata_target(three, SPAN, ALL, [4])
+        assert target
+        self.assertEqual((target.images, target.shapes), ((0, 1, 2), (Shape("5", 4, 1),)))
+        self.assertEqual(target.why, "metadata on images 0, 1, 2 (md 1.2) describe it, and may be wrong")
+
 
 if __name__ == "__main__":
     unittest.main()

@@ -223,7 +223,8 @@ class Evident:
         members = metadata.examine(self.search.commands, self.search.room.base, names, place)
         members += metadata.examine_lvm({number: part.span.first for number in names}, names)
         self.say("metadata", (it.line(f"image {it.image}") for it in members))
-        found = [plain.metadata_target(it, part.span, self.options) for it in metadata.arrays(members)]
+        bare = sorted(set(part.images) - {it.image for it in members})
+        found = [plain.metadata_target(it, part.span, self.options, bare) for it in metadata.arrays(members)]
         # A set with an offset for each image has to name all.
         named = [target for target in found if target and target.shapes and (not target.is_each or len(target.images) == len(self.search.images))]
         if not sampling.is_large(part.span.first, min(part.span.end, part.span.first + self.options.first // SECTOR)):

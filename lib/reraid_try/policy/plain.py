@@ -154,8 +154,9 @@ def moved_targets(offsets: Iterable[tuple[int, ...]], numbers: Sequence[int], sp
                    (("mode", "each"), ("offsets", listed(it)), ("window", str(EACH_WINDOW))), moved=it) for it in offsets if shapes]
 
 
-def metadata_target(members: Sequence[Member], span: Span, options: Options) -> Target | None:
-    """What is tried of images whose metadata name an array; None where a set has no words for it, or level 10 is named, of which copies tell."""
+def metadata_target(members: Sequence[Member], span: Span, options: Options, bare: Sequence[int] = ()) -> Target | None:
+    """What is tried of images whose metadata name an array; None where a set has no words for it, or level 10 is named, of which copies tell. If more
+    disks are missing than the level bears, all images without metadata, `bare`, are tried as the others."""
     left_out = metadata.old(members)
     placed = [it for it in members if it not in left_out and it.slot is not None]
     head = metadata.head_of(placed[0]) if placed else None
@@ -165,9 +166,12 @@ def metadata_target(members: Sequence[Member], span: Span, options: Options) -> 
     offsets = {it.offset or 0 for it in placed}
     asked = [("patterns", pattern), ("syndromes", order), ("offsets", listed(offsets)), *chunks(placed[0].chunk)]
     asked += [("mode", "each"), ("window", str(EACH_WINDOW))] if len(offsets) > 1 else []
-    images = tuple(sorted({it.image for it in placed}))
-    shapes = allowed([Shape(level, placed[0].disks, placed[0].disks - len(images))], options) if len(images) <= placed[0].disks else ()
-    return Target(images, span, f"metadata on {ties.named(images)} ({placed[0].source}) describe it, and may be wrong", shapes, tuple(asked))
+    named, disks = tuple(sorted({it.image for it in placed})), placed[0].disks
+    images = named if disks - len(named) <= LEVELS[level].parity else tuple(sorted({*named, *bare}))
+    shapes = allowed([Shape(level, disks, disks - len(images))], options) if 0 <= disks - len(images) <= LEVELS[level].parity else ()
+    why = f"metadata on {ties.named(named)} ({placed[0].source}) describe it, and may be wrong"
+    why += f"; {ties.named(bare)} have none, and are tried as its other disks" if images != named else ""
+    return Target(images, span, why, shapes, tuple(asked))
 
 
 def named_target(members: Sequence[Member], span: Span, options: Options, images: int) -> Target | None:

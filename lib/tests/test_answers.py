@@ -324,7 +324,7 @@ class Late(Disks):
                 found = it.late(Told(asked=True), ())
             self.assertEqual(found.kind if found else None, kind)
             if found:
-                self.assertIn("the xfs of which a superblock is at sector 2048 of image 0 states that it has 30000 sectors.", found.text)
+                self.assertIn("the xfs with a superblock at sector 2048 of image 0 states that it has 30000 sectors.", found.text)
 
     def test_encrypted(self) -> None:
         """Nothing tells a layout where contents are encrypted and parity ties nothing."""

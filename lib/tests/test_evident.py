@@ -345,7 +345,7 @@ class Apart(unittest.TestCase):
         with mock.patch("reraid_try.policy.evident.unlike.moved", return_value=[]):
             first, *_ = found.of_partition(part)
         self.assertEqual((first.moved, first.tied, first.shapes[0]), ((4096, 2048, 4096), False, Shape("5", 4, 1)))
-        self.assertEqual(report.lines, ["image 1: no partition table, and shorter than whole disks. Perhaps of the partition alone"] * 2)
+        self.assertEqual(report.lines, ["image 1: no partition table, and shorter than whole disks. Perhaps of only the partition"] * 2)
         self.assertEqual(found.of_partition(dataclasses.replace(part, alone=())), [])
 
     def test_copies_that_lie_apart(self) -> None:

@@ -185,7 +185,7 @@ class Targets(unittest.TestCase):
         self.assertEqual((first.images, first.moved, first.is_each, first.tied, second.moved), ((0, 3), (4096, 2048), True, False, (2048, 0)))
         self.assertEqual(first.shapes, (Shape("5", 3, 1), Shape("6", 4, 2), Shape("0", 2)))
         self.assertEqual(dict(first.asked)["offsets"], "2048,4096")
-        self.assertIn("images 0, 3: some are of a partition alone, so their data begin at sectors 4096, 2048", first.why)
+        self.assertIn("images 0, 3: some are of only a partition, so their data begin at sectors 4096, 2048", first.why)
         self.assertEqual(plain.moved_targets([(4096, 2048)], (0, 3), SPAN, Options(("a",), levels=("10",))), [])
 
     def test_metadata(self) -> None:

@@ -120,7 +120,7 @@ def too_many_lost(images: Sequence[Image], supers: Sequence[tuple[int, int]] = (
     if home is None:
         return None
     most = max(image.sectors for image in images)
-    where = "of which a superblock is at" if home.is_copy else "that begins at"
+    where = "with a superblock at" if home.is_copy else "that begins at"
     what = f"the {home.kind} {where} sector {home.first} of image {home.image.number}"
     there = f"{counted(len(images), 'image')} of at most {most} sectors"
     return Answer(Kind.LOST, f"too many disks are missing: {what} states that it has {home.sectors} sectors. {there} cannot hold it, with parity or "

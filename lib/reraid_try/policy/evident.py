@@ -172,7 +172,7 @@ class Evident:
             return []
         images = [self.search.images[number] for number in sorted((*part.images, *part.alone))]
         numbers, way = [image.number for image in images], [0 if image.number in part.alone else part.span.first for image in images]
-        self.say("place", [f"{ties.named(part.alone)}: no partition table, and shorter than whole disks. Perhaps of the partition alone"])
+        self.say("place", [f"{ties.named(part.alone)}: no partition table, and shorter than whole disks. Perhaps of only the partition"])
         span = Span(0, min(image.sectors for image in images))
         tied = unlike.moved(self.asked(), images, way, span.end)
         if tied:

@@ -149,7 +149,7 @@ def moved_targets(offsets: Iterable[tuple[int, ...]], numbers: Sequence[int], sp
     """What is tried of images of which some are of a partition alone, if parity does not tie them, by where their data may begin."""
     count = len(numbers)
     shapes = allowed([Shape("5", count + 1, 1), Shape("6", count + 2, 2), Shape("0", count)], options)
-    why = f"{ties.named(numbers)}: some are of a partition alone, so their data begin at sectors"
+    why = f"{ties.named(numbers)}: some are of only a partition, so their data begin at sectors"
     return [Target(tuple(numbers), span, f"{why} {', '.join(map(str, it))}", shapes,
                    (("mode", "each"), ("offsets", listed(it)), ("window", str(EACH_WINDOW))), moved=it) for it in offsets if shapes]
 

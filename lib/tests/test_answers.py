@@ -8,6 +8,7 @@ from collections.abc import Sequence
 from typing import Any, cast
 from unittest import mock
 
+from reraid_try.calls.plans import Mark
 from reraid_try.checks import alone
 from reraid_try.checks.alone import Alone
 from reraid_try.checks.checkers import Checkers
@@ -261,6 +262,20 @@ class ByItself(Disks):
         self.assertEqual(self.kind(*labels), Kind.ZFS)
         self.assertIsNone(self.kind(labels[0], self.image(1, (16 * KIB, zfs(b"tank")), (MIB, ext(9000)))))
 
+    def test_parity_of_zfs(self) -> None:
+        """A raidz has parity of its own, which holds in a part of the rows. Parity of an array holds in nearly all, and it lies over some labels."""
+        places = 16 * KIB, 272 * KIB, SIZE - 496 * KIB, SIZE - 240 * KIB
+        disks = [self.image(number, *((place, zfs(b"tank")) for place in places)) for number in range(3)]
+
+        def known(loose: int) -> list[Known]:
+            """Parity that holds in 96 rows and fails in some."""
+            return [Known(ImageGroup((0, 1, 2), 96, 0, 99, "5", 1, loose=loose))]
+        self.assertEqual([self.kind(*disks, known=known(loose)) for loose in (5, 6, 90)], [None, Kind.ZFS, Kind.ZFS])
+        disks[2] = self.image(2, *((place, zfs(b"tank")) for place in places[:3]))
+        self.assertIsNone(self.kind(*disks, known=known(90)))
+        some = [self.image(number, (0, btrfs(number + 1, 3))) for number in range(3)]
+        self.assertIsNone(self.kind(*some, verdict=Verdict(), known=known(90)))
+
     def test_a_linear_volume(self) -> None:
         disks = [self.image(number, (0, physical(name, 8192, "ab"[1 - number] * 32))) for number, name in enumerate(("a" * 32, "b" * 32))]
         self.assertEqual(self.kind(*disks), Kind.LINEAR)
@@ -297,6 +312,19 @@ class Late(Disks):
         # Few rows are tied, as if one disk of four were lost: even then the file system is too long.
         barely = self.late(some, Told((Known(ImageGroup((0, 1, 2), 90, 0, 99, "5", 0)),), (), True))
         self.assertEqual(barely.kind if barely else None, Kind.LOST)
+
+    def test_too_many_lost_by_copies_of_a_superblock(self) -> None:
+        """Superblocks that landmarks tell of say how long an XFS is: two at least, since a file may hold one."""
+        head = b"XFSB" + struct.pack(">IQ", 4096, 30000 // 8)
+        some = [self.image(0, (MIB, head)), self.image(1, (2 * MIB, head)), self.image(2)]
+        first, second = (0, 2048), (1, 4096)
+        for supers, kind in (((first, second), Kind.LOST), ((first,), None), ((first, (1, 2048)), None), ((), None), (((7, 8),), None)):
+            it = Answers(cast(Any, None), cast(Any, None), some, 1, supers)
+            with mock.patch.object(homes, "all_homes", return_value=[]):
+                found = it.late(Told(asked=True), ())
+            self.assertEqual(found.kind if found else None, kind)
+            if found:
+                self.assertIn("the xfs with a superblock at sector 2048 of image 0 states that it has 30000 sectors.", found.text)
 
     def test_encrypted(self) -> None:
         """Nothing tells a layout where contents are encrypted and parity ties nothing."""
@@ -342,6 +370,17 @@ class Asked(InFolder):
                 self.assertEqual((asked.call_count, it.solved), (1, False))
                 it.is_hopeless(Told(asked=True))
                 self.assertEqual(asked.call_count, 2)
+
+    def test_superblocks(self) -> None:
+        """Those of XFS that landmarks tell of, each once, are asked about anew when more are known."""
+        it = self.search()
+        mark, other = Mark("super", 2, 2048, "every:8:1:0"), Mark("inode", 2, 4096, "at:8:1:0")
+        groups = [types.SimpleNamespace(kind=kind, marks=(mark, other, mark)) for kind in ("xfs", "ext")]
+        with mock.patch.object(Answers, "late", return_value=None) as asked:
+            self.assertFalse(it.is_hopeless(Told()))
+            it.scopes = [cast(Any, types.SimpleNamespace(plan=types.SimpleNamespace(groups=groups)))] * 2
+            self.assertEqual(it.supers, ((2, 2048),))
+            self.assertEqual([it.is_hopeless(Told()), it.is_hopeless(Told()), asked.call_count], [False, False, 2])
 
     def test_what_is_said(self) -> None:
         it = self.search()

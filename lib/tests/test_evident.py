@@ -332,6 +332,22 @@ class Apart(unittest.TestCase):
             self.assertEqual(look.call_args[0][1:], (self.images, Distances(tuple(shown)), 900, {1: (8, 16)}))
         return found
 
+    def test_images_of_a_partition_alone(self) -> None:
+        """They are searched with those of whole disks: where parity ties all, or else at the sectors where data usually begin."""
+        images = [Image("a", 0, 9000, first=0), Image("b", 1, 8900, first=2048), Image("c", 2, 9000, first=0)]
+        found, report = evident(images, NoTools({}), Options(("a",)))
+        part = Part((0, 2), Span(2048, 8900, True), (1,))
+        tied = Unlike((4096, 2048, 4096), ties.Known(ImageGroup((0, 1, 2), 500, 8, 900, "5", 1)))
+        with mock.patch("reraid_try.policy.evident.unlike.moved", return_value=[tied]) as moved:
+            target, = found.of_partition(part)
+        self.assertEqual(moved.call_args[0][1:], (images, [2048, 0, 2048], 8900))
+        self.assertEqual((target.images, target.moved, target.tied, target.shapes), ((0, 1, 2), (4096, 2048, 4096), True, (Shape("5", 3),)))
+        with mock.patch("reraid_try.policy.evident.unlike.moved", return_value=[]):
+            first, *_ = found.of_partition(part)
+        self.assertEqual((first.moved, first.tied, first.shapes[0]), ((4096, 2048, 4096), False, Shape("5", 4, 1)))
+        self.assertEqual(report.lines, ["image 1: no partition table, and shorter than whole disks. Perhaps of only the partition"] * 2)
+        self.assertEqual(found.of_partition(dataclasses.replace(part, alone=())), [])
+
     def test_copies_that_lie_apart(self) -> None:
         """They are tried as RAID 10, but where parity ties the images at offsets of their own, or level 10 is not asked for."""
         shown = [Shift(0, 1, 128, 50), Shift(1, 2, 128, 40)]
@@ -764,6 +780,23 @@ class Evidence(unittest.TestCase):
         setattr(found, "by_metadata", lambda _: [])
         target, = found.targets(Part(tuple(range(6)), Span(0, 300)))
         self.assertEqual((target.images, found.search.stale), ((0, 1, 2, 3, 5), {4}))
+
+    def test_states_of_one_disk(self) -> None:
+        """Beside a disk that failed and the one that took its place each is left out in turn: after RAID 10 if nothing ties the others."""
+        rnd = random.Random(5)
+        made = rows.without(rows.striped(rnd, 5, 5, 600, chunk=16), 2)
+        for number, row in enumerate(made):
+            row.append(row[1] if number < 400 else rows.sector(rnd))
+        runner, images = disks(made)
+        with mock.patch("reraid_try.policy.evident.unlike.found_shifts", return_value=Distances()), \
+                mock.patch("reraid_try.policy.evident.metadata.lvm_starts", return_value={}):
+            found, said = self.targets(images, runner)
+        shapes = (Shape("0", 4), Shape("5", 5, 1), Shape("6", 6, 2))
+        states = [(it.images, it.shapes, it.by_thousands, it.states) for it in found if it.states]
+        self.assertEqual(states, [((0, 2, 3, 4), shapes, shapes, (1, 4)), ((0, 1, 2, 3), shapes, shapes, (4, 1))])
+        self.assertEqual([bool(it.copied) for it in found if it.states or it.copied][-2:], [False, False])
+        self.assertIn("images 1 and 4 hold the same data in many rows and different data in others: perhaps one is an older state of the other, as "
+                      "of a disk that was replaced or imaged twice", said)
 
     def test_a_reshape(self) -> None:
         """Where it stands is said, and kept in mind for the end, once; all five disks are tried."""

@@ -55,6 +55,14 @@ class Without(unittest.TestCase):
         self.assertEqual(told(rows, sectors), [(0, 500), (501, 900)])
 
 
+class Repeats(unittest.TestCase):
+    def test_a_sector(self) -> None:
+        """A short pattern over and over repeats, and so does one byte, but not zeros, nor what counts, nor a text before zeros."""
+        count = b"".join(number.to_bytes(4, "little") for number in range(128))
+        sectors = HASHES, ONES, RECORD, bytes(SECTOR), count, RANDOM, b"BAD SECTOR".ljust(SECTOR, b"\0"), b""
+        self.assertEqual([patterns.repeats(it) for it in sectors], [True] * 3 + [False] * 5)
+
+
 class Held(unittest.TestCase):
     def test_sectors(self) -> None:
         """A sector is read behind the offset of its image; of what cannot be read nothing is."""
@@ -65,3 +73,14 @@ class Held(unittest.TestCase):
             with contextlib.closing(patterns.Sectors({4: name, 7: os.path.join(folder, "none")}, (1, 0))) as sectors:
                 self.assertEqual([sectors.held(4, row) for row in (0, 1, 2)], [HASHES, RECORD, b""])
                 self.assertEqual(sectors.held(7, 0), b"")
+
+    def test_rows_that_repeat(self) -> None:
+        """Of a row only the images that are asked of count."""
+        with tempfile.TemporaryDirectory() as folder:
+            names = {number: os.path.join(folder, str(number)) for number in (4, 7)}
+            for number, data in ((4, RANDOM + HASHES), (7, RANDOM + RANDOM)):
+                with open(names[number], "wb") as file:
+                    file.write(data)
+            with contextlib.closing(patterns.Sectors(names)) as sectors:
+                self.assertEqual([sectors.repeat(row, images) for row, images in ((0, (4, 7)), (1, (7, 4)), (1, (7,)), (2, (4,)))],
+                                 [False, True, False, False])

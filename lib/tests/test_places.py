@@ -48,6 +48,22 @@ class Best(unittest.TestCase):
         self.assertFalse(any(seen.sector < 64 + 400 for seen in it.seen))
         self.assertIn(("ls", 16, (0, 1, 2, 3, 4), 0), {(one.turn.patterns[0][0], one.chunk, one.slots, one.against) for one in it.best([64])})
 
+    def test_data_that_repeat_beside_lost_disks(self) -> None:
+        """With two disks of a RAID 6 lost, ties do not tell rows of one pattern from others. What the sectors hold does."""
+        whole = rows.striped(self.rnd, 6, 6, 960, chunk=16, sparse=0.6)
+        for number, row in enumerate(whole[:480]):
+            pattern = b"#" * len(row[0])
+            weighed = bytes(7 * byte % 251 for byte in pattern)
+            p = (5 - number // 16) % 6
+            row[:] = [bytes(len(pattern)) if slot == p else weighed if slot == (p + 1) % 6 else pattern for slot in range(6)]
+        left = shuffled(whole, (3, 0, 4, 2))
+        true = made("6", "ls", "after-q", 16, (64,), (1, None, 3, 0, 2, None))
+        self.assertEqual(told(left, "6", 6).allowed([true]), [False])
+        made_of = relations.read(rows.text(left, 64, 1), 1)
+        it = Places(made_of, range(4), "6", 6, repeats=lambda row, _: row < 64 + 480)
+        self.assertFalse(any(seen.sector < 64 + 480 for seen in it.seen))
+        self.assertEqual(it.allowed([true]), [True])
+
     def test_parity_that_stays(self) -> None:
         """The turns of a chunk are those of one that is shorter, whose parity stays for as many rows more."""
         whole = rows.striped(self.rnd, 5, 5, 3200, chunk=32, sparse=0.6)

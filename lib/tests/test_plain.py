@@ -3,6 +3,7 @@
 import dataclasses
 import unittest
 
+from reraid_try.calls.sets import read_word
 from reraid_try.evidence.image_groups import ImageGroup, Old
 from reraid_try.evidence.metadata import Member
 from reraid_try.evidence.ties import Known, Told
@@ -164,6 +165,25 @@ class Targets(unittest.TestCase):
         self.assertTrue(target.is_each)
         self.assertEqual(target.shapes, (Shape("5", 3),))
 
+    def test_states_of_one_disk(self) -> None:
+        """Without one of two states of a disk all is tried but RAID 10, and beside what is found the other state in the same slot."""
+        group = ImageGroup((0, 1, 3, 4, 5), 700, 8, 900, "10", 0, states=(0, 5))
+        self.assertEqual(plain.states(Told((Known(group),), (), True)), (0, 5))
+        self.assertIsNone(plain.states(Told((Known(dataclasses.replace(group, states=None)),), (), True)))
+        rest = Told((Known(ImageGroup((1, 3, 4, 5), 500, 8, 900, "5", 0)),), (), True)
+        target, = plain.without_state(rest, (1, 3, 4, 5), (0, 5), SPAN, ALL)
+        self.assertEqual((target.images, target.shapes, target.by_thousands), ((1, 3, 4, 5), (Shape("5", 5, 1),), (Shape("5", 5, 1),)))
+        self.assertIn("without image 0, which may be an older state of image 5", target.why)
+        silent, = plain.without_state(Told((), (1, 3, 4, 5), True), (1, 3, 4, 5), (0, 5), SPAN, ALL)
+        self.assertEqual(silent.shapes, (Shape("0", 4), Shape("5", 5, 1), Shape("6", 6, 2)))
+        word = read_word("5:la:none:512:64:4,5,3,-,1")
+        other = plain.other_state(target, word, target.shapes[0])
+        assert other
+        self.assertEqual((other.word, other.images), ("5:la:none:512:64:4,0,3,-,1", (0, 1, 3, 4)))
+        self.assertEqual(dict(other.asked), {"offsets": "64", "chunks": "512"})
+        self.assertIsNone(plain.other_state(target, read_word("5:la:none:512:64:4,-,3,-,1"), target.shapes[0]))
+        self.assertIsNone(plain.other_state(dataclasses.replace(target, states=None), word, target.shapes[0]))
+
     def test_guessed(self) -> None:
         """Beginnings that parity does not show are those of a level that has lost as many disks as it bears."""
         target, = plain.guessed_targets((64, 16, 16), range(3), SPAN, ALL)
@@ -171,6 +191,15 @@ class Targets(unittest.TestCase):
         self.assertEqual((target.images, target.shapes, target.tied, target.moved), ((0, 1, 2), (Shape("5", 4, 1), Shape("6", 5, 2)), False, ()))
         self.assertEqual(target.why, "the distances between equal data on the images suggest that their data begin at sectors 64, 16, 16")
         self.assertEqual(plain.guessed_targets((64, 16, 16), range(3), SPAN, Options(("a",), levels=("0", "10"))), [])
+
+    def test_images_of_a_partition_alone(self) -> None:
+        """Their data begin at other sectors than those of whole disks; as many disks are lost as a level bears, or none of a RAID 0."""
+        first, second = plain.moved_targets([(4096, 2048), (2048, 0)], (0, 3), SPAN, ALL)
+        self.assertEqual((first.images, first.moved, first.is_each, first.tied, second.moved), ((0, 3), (4096, 2048), True, False, (2048, 0)))
+        self.assertEqual(first.shapes, (Shape("5", 3, 1), Shape("6", 4, 2), Shape("0", 2)))
+        self.assertEqual(dict(first.asked)["offsets"], "2048,4096")
+        self.assertIn("images 0, 3: some are of only a partition, so their data begin at sectors 4096, 2048", first.why)
+        self.assertEqual(plain.moved_targets([(4096, 2048)], (0, 3), SPAN, Options(("a",), levels=("10",))), [])
 
     def test_metadata(self) -> None:
         """What metadata name: layout, chunk and offset; a disk is lost where a slot is not named, and an old one is left out."""
@@ -183,6 +212,22 @@ class Targets(unittest.TestCase):
         self.assertIn("may be wrong", target.why)
         self.assertIsNone(plain.metadata_target([Member(0, "md 1.2", "a", "raid10", 4, "near=2", 128, 0, 2048)], SPAN, ALL))
         self.assertIsNone(plain.metadata_target([Member(0, "md 1.2", "a", "raid1", 2, "", None, 0, 2048)], SPAN, ALL))
+
+    def test_metadata_on_few_disks(self) -> None:
+        """If more disks would be missing than the level bears, images without metadata are the others, and nothing is tried if these do not do."""
+        said = [Member(0, "md 1.2", "a", "raid5", 4, "left-symmetric", 128, 1, 2048, 9)]
+        cases: list[tuple[list[int], tuple[int, ...], tuple[Shape, ...]]] = [
+            ([1, 2, 3], (0, 1, 2, 3), (Shape("5", 4),)), ([2, 3], (0, 2, 3), (Shape("5", 4, 1),)), ([3], (0, 3), ()), ([], (0,), ()),
+            ([1, 2, 3, 4], (0, 1, 2, 3, 4), ())]
+        for bare, images, shapes in cases:
+            target = plain.metadata_target(said, SPAN, ALL, bare)
+            assert target
+            self.assertEqual((target.images, target.shapes), (images, shapes))
+        three = [dataclasses.replace(said[0], image=image, slot=image) for image in range(3)]
+        target = plain.metadata_target(three, SPAN, ALL, [4])
+        assert target
+        self.assertEqual((target.images, target.shapes), ((0, 1, 2), (Shape("5", 4, 1),)))
+        self.assertEqual(target.why, "metadata on images 0, 1, 2 (md 1.2) describe it, and may be wrong")
 
 
 if __name__ == "__main__":

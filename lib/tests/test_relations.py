@@ -282,6 +282,19 @@ class ImageGroups(unittest.TestCase):
         self.assertEqual(found.images, (0, 1, 2, 3, 4))
         self.assertNotEqual(found.level, image_groups.COPIES)
 
+    def test_states_of_one_disk(self) -> None:
+        """A disk that failed and the one that took its place hold the same in some rows. Copies hold it in all, those of RAID 10 on many pairs."""
+        for same, states in ((100, (0, 1)), (24, None), (NUMBER, None)):
+            made = []
+            for number in range(NUMBER):
+                one, last = rows.sector(self.rnd), rows.sector(self.rnd)
+                made.append([one, one if number < same else rows.sector(self.rnd), last])
+            found = relations.read(rows.text(made), 1)
+            self.assertEqual(image_groups.states_of(found, frozenset(range(3))) if same < NUMBER else told(made)[0].states, states)
+        turning = [[one, one, other, other] if number % 2 else [other, one, one, other] for number in range(NUMBER)
+                   for one, other in [(rows.sector(self.rnd), rows.sector(self.rnd))]]
+        self.assertIsNone(image_groups.states_of(relations.read(rows.text(turning), 1), frozenset(range(4))))
+
     def test_turning_copies(self) -> None:
         """Copies of a RAID 10 of five disks, of which each row has other pairs, are no RAID 5."""
         made = []

@@ -49,6 +49,22 @@ class Places(unittest.TestCase):
         self.assertEqual([it.images for it in shared.places([disk(0, (8, 100)), again, disk(2, (8, 100))])], [(0, 2)])
 
 
+class OfPartition(unittest.TestCase):
+    """Images that may be of a partition alone."""
+
+    def test_which(self) -> None:
+        """They have no table of their own, and are as long as the partition at least, and shorter than a whole disk."""
+        whole = [dataclasses.replace(disk(number, (8, 4000)), first=0) for number in range(2)]
+        place, = shared.places(whole)
+        one, sectors = disk(2), (4096, 4095, 4000, 3999)
+        others = [(dataclasses.replace(one, sectors=count), is_alone) for count, is_alone in zip(sectors, (False, True, True, False))]
+        others += [(dataclasses.replace(disk(2, (8, 3900)), sectors=4050), False), (dataclasses.replace(one, sectors=4050, like=0), False)]
+        for other, is_alone in others:
+            found = shared.of_partition(place, [*whole, dataclasses.replace(other, first=0)])
+            self.assertEqual([it.number for it in found], [2] * is_alone)
+        self.assertEqual(shared.of_partition(place, [*whole, dataclasses.replace(disk(2), sectors=4000)]), [])
+
+
 class Contents(unittest.TestCase):
     """What the images hold at a place."""
 

@@ -328,6 +328,17 @@ class UnlikeOffsets(unittest.TestCase):
         many = [Image(f"{number}.img", number, 464, first=8 * number) for number in range(9)]
         self.assertEqual(len(unlike.ways(many, Distances((Shift(0, 1, 8, 40),)), {})), unlike.MAX_WAYS)
 
+    def test_images_of_a_partition_alone(self) -> None:
+        """How far their data lie from those of whole disks is known. Parity tells where they begin, or else where images begin to hold something."""
+        made, images = self.array(rows.striped(random.Random(9), 4, 5, 400))
+        way = tuple(start - min(self.starts) for start in self.starts)
+        first, *_ = unlike.moved(made, images, way, images[0].sectors)
+        self.assertEqual((first.offsets, first.known.group.parity), (self.starts, 1))
+        self.assertEqual(unlike.moved(made, images, (0, 8, 0, 0), images[0].sectors), [])
+        some = [Image(f"{number}.img", number, 9000, first=first) for number, first in enumerate((2064, 16))]
+        self.assertEqual(unlike.silent(some, (2048, 0)), [(2064, 16), (4096, 2048), (2048, 0)])
+        self.assertEqual(unlike.silent([dataclasses.replace(it, sectors=4000) for it in some], (2048, 0)), [(2064, 16), (2048, 0)])
+
     def test_guessed(self) -> None:
         """Distances that agree say the offsets, with the beginning that an image tells; not where they say nothing of one image or one number."""
         images = [Image(f"{number}.img", number, 464, first=first) for number, first in enumerate((16, 3, 70))]

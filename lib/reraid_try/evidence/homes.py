@@ -25,13 +25,15 @@ MAX_PARTITIONS = 16
 @dataclasses.dataclass(frozen=True)
 class Home:
     """The head of a file system, or of a physical volume of LVM2: its image, its kind, the sector at which it begins, how many sectors it says that
-    it has, 0 if that is not told, and the checksum of its first bytes."""
+    it has, 0 if that is not told, and the checksum of its first bytes. Of a copy of a superblock, which stands elsewhere in the file system, `first`
+    is the sector of the copy."""
 
     image: Image
     kind: str
     first: int
     sectors: int
     head: str
+    is_copy: bool = False
 
     @property
     def fits(self) -> bool:
@@ -76,11 +78,18 @@ def own_home(image: Image) -> Home | None:
     return found[0] if found else None
 
 
-def too_long(images: Sequence[Image]) -> Home | None:
+def copies(images: Iterable[Image], supers: Iterable[tuple[int, int]]) -> Iterator[Home]:
+    """Yield what superblocks say that landmarks tell of, each by its image and sector. One alone of an image may be of a file."""
+    there = {image.number: image for image in images}
+    found = [home for number, sector in supers if number in there and (home := home_at(there[number], sector))]
+    yield from (dataclasses.replace(home, is_copy=True) for home in found if sum(it.sectors == home.sectors for it in found) > 1)
+
+
+def too_long(images: Sequence[Image], supers: Iterable[tuple[int, int]] = ()) -> Home | None:
     """Return a file system that is longer than all images together, at the length of the longest, if no head says that one fits; None else. Then more
-    disks are missing than any level bears."""
+    disks are missing than any level bears. `supers` are the images and sectors of superblocks that landmarks tell of."""
     most = len(images) * max((image.sectors for image in images), default=0)
-    found = [home for home in all_homes(images) if home.sectors]
+    found = [home for home in (*all_homes(images), *copies(images, supers)) if home.sectors]
     return max(found, key=lambda it: it.sectors) if found and all(it.sectors > most for it in found) else None
 
 

@@ -25,6 +25,9 @@ FEW_FULL, PART_TIED = 8, Fraction(19, 20)
 MIN_OLD, MIN_RESHAPED = 4, 8
 # Two images are copies where so much of the rows in which one of them is not zeros ties just these two.
 PART_COPIED = Fraction(9, 10)
+# Two images may be states of one disk if one in so many of the rows in which both hold something has the same on both, and at most one in so many of
+# all such rows has the same on two other images.
+MIN_STATES, FEW_STATES = 4, 4
 CHUNKS = tuple(1 << power for power in range(15, 2, -1))
 # So much of the places where ties change lies at one distance from the borders of chunks of the right length, of so many places at least.
 PART_AT_BORDERS, MIN_BORDERS = Fraction(9, 10), 4
@@ -97,7 +100,8 @@ class ImageGroup:
     the rows have in which no image is zeros, which is how many disks more might be lost were no image old, and `others` what numbers of ties rows
     have besides: more where what is lost is zeros, fewer where rows are bad. `first` and `last` are the first and last row that is tied. `loose`
     counts the rows in which one image at most is zeros and nothing is tied though most are, the first of them at `loose_first`. `copies` are the
-    images of which two hold the same in nearly all rows; images of which two do so in most rows are a group of copies without them."""
+    images of which two hold the same in nearly all rows; images of which two do so in most rows are a group of copies without them. Of such `states`
+    are the two that may be an older and a newer state of one disk."""
 
     images: tuple[int, ...]
     rows: int
@@ -111,6 +115,7 @@ class ImageGroup:
     loose: int = 0
     loose_first: int | None = None
     copies: tuple[tuple[int, int], ...] = ()
+    states: tuple[int, int] | None = None
 
     @property
     def may_be_copies(self) -> bool:
@@ -370,6 +375,23 @@ def copies_of(relations: Relations, images: frozenset[int]) -> tuple[tuple[int, 
                  if {one, other} <= images and count >= MIN_TIED and count >= PART_COPIED * max(there[one], there[other]))
 
 
+def states_of(relations: Relations, images: frozenset[int]) -> tuple[int, int] | None:
+    """The two images that may be an older and a newer state of one disk, as a disk that failed and the one that took its place: they hold the same in
+    not few rows, and hardly any others do. None if there are no such two."""
+    same: collections.Counter[tuple[int, int]] = collections.Counter()
+    there: collections.Counter[tuple[int, int]] = collections.Counter()
+    for rows in relations.rows:
+        count = relations.count(rows)
+        for pair in itertools.combinations(sorted(images - rows.zero), 2):
+            there[pair] += count
+        for tie in rows.ties:
+            if tie.plain and len(tie.weights) == 1 and tie.images <= images:
+                same[min(tie.images), max(tie.images)] += count
+    (pair, most), = same.most_common(1) or [((0, 0), 0)]
+    others = sum(same.values()) - most
+    return pair if most >= MIN_TIED and MIN_STATES * most >= there[pair] and FEW_STATES * others <= most else None
+
+
 def reshape_of(relations: Relations, images: frozenset[int], parity: int) -> Reshape | None:
     """Where ties of all images end and as many ties without one of them begin, or one of weights of 1 alone, as far as nearly all rows on either side
     say the same."""
@@ -400,7 +422,8 @@ def group_of(relations: Relations, images: frozenset[int]) -> ImageGroup:
             tally.add(rows, relations.count(rows))
     copies, first = copies_of(relations, images), tally.first or 0
     if len(copies) >= len(images) // 2 or tally.copied or len(images) == 2 and tally.parity:
-        return ImageGroup(tuple(sorted(images)), tally.rows, first, tally.last, COPIES, 0, copies=copies)
+        states = None if copies else states_of(relations, images)
+        return ImageGroup(tuple(sorted(images)), tally.rows, first, tally.last, COPIES, 0, copies=copies, states=states)
     reshape = reshape_of(relations, images, tally.parity) if tally.parity else None
     old = () if reshape or tally.level != LEVEL_6 else tally.old()
     return ImageGroup(tuple(sorted(images)), tally.rows, first, tally.last, tally.level, tally.parity, old, reshape, tally.others,

@@ -5,9 +5,10 @@ import dataclasses
 import functools
 import os
 import zlib
-from collections.abc import Callable, Iterator, Mapping, Sequence
+from collections.abc import Callable, Iterable, Iterator, Mapping, Sequence
 
 from ..units import SECTOR
+from . import texts
 from .relations import Relations, Rows
 
 # A sector that can be packed to fewer bytes is a pattern.
@@ -20,6 +21,14 @@ ZERO = bytes(SECTOR)
 def is_pattern(sector: bytes) -> bool:
     """Return whether a sector has much less in it than it is long."""
     return len(sector) == SECTOR and len(zlib.compress(sector, 1)) < MAX_PACKED
+
+
+def repeats(sector: bytes) -> bool:
+    """Return whether a sector is a short pattern over and over, and not zeros."""
+    if not sector.strip(sector[:1]):
+        return any(sector)
+    found = texts.text_of(sector)
+    return found is not None and found.again
 
 
 def kept_rows(rows: Rows, step: int, is_tied_by_patterns: Callable[[Rows, int], bool]) -> Iterator[Rows]:
@@ -74,3 +83,7 @@ class Sectors:
         with contextlib.suppress(OSError):
             return os.pread(self.files[image], SECTOR, (row + self.offsets[image]) * SECTOR)
         return b""
+
+    def repeat(self, row: int, images: Iterable[int]) -> bool:
+        """Return whether one of some images holds a short pattern over and over in a row."""
+        return any(repeats(self.held(image, row)) for image in images)

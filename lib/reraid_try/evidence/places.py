@@ -25,6 +25,10 @@ MAX_WORKED, MAX_TOLD, MAX_MEMBERS = 96, 64, 12
 MAX_ROWS = 16384
 
 
+# Whether one of some images, by their numbers, holds a short pattern over and over in a row.
+Repeats = Callable[[int, Iterable[int]], bool]
+
+
 @dataclasses.dataclass(frozen=True)
 class Turn:
     """How parity moves: the slots of P, and of Q, in a row of so many members, and the patterns of which that holds, each with an order of Q. `fixed`
@@ -131,28 +135,34 @@ def is_in(gaps: Sequence[range], row: int) -> bool:
     return place > 0 and row in gaps[place - 1]
 
 
-def seen_in(relations: Relations, images: frozenset[int], spare: int, unread: Sequence[range], parity: int) -> Iterator[Seen]:
+def never(_row: int, _images: Iterable[int]) -> bool:
+    """Return that no data repeat in any row, if the images are not looked at."""
+    return False
+
+
+def seen_in(relations: Relations, images: frozenset[int], spare: int, unread: Sequence[range], parity: int, repeats: Repeats) -> Iterator[Seen]:
     """The rows that say something of these images: some are zeros there and others are not. `spare` is how many disks more may be lost, `unread` has
-    runs of rows in which some image was not read, in order. Rows with more ties than the level has `parity` say nothing: their data repeat, as in
-    files of one pattern, and cancel."""
+    runs of rows in which some image was not read, in order. Rows whose data repeat say nothing, as in files of one pattern: such data cancel. Rows
+    with more ties than the level has `parity` are such, and those of which `repeats` says so."""
     for rows in relations.rows:
         zero, there = images & rows.zero, images - rows.zero
         ties = ties_among(rows, images)
         tied = frozenset[int]().union(*(tie.images for tie in ties))
         if zero and there and (tied == there or not spare) and len(ties) <= parity:
             for sector in range(rows.first, rows.last + 1, relations.step):
-                if not is_in(unread, sector):
+                if not is_in(unread, sector) and not repeats(sector, there):
                     yield Seen(sector, 1, zero, tied == there)
 
 
 class Places:
     """Where parity may lie on images, by their numbers, of an array of a level with so many members. `unread` has runs of rows in which some image
-    was not read."""
+    was not read, `repeats` says in which rows data repeat."""
 
-    def __init__(self, relations: Relations, images: Sequence[int], level: str, members: int, unread: Iterable[range] = ()) -> None:
+    def __init__(self, relations: Relations, images: Sequence[int], level: str, members: int, unread: Iterable[range] = (),
+                 repeats: Repeats = never) -> None:
         self.images, self.level, self.members = tuple(images), level, members
         spare = max(0, LEVELS[level].parity - (members - len(self.images)))
-        self.seen = tuple(seen_in(relations, frozenset(images), spare, joined(unread), LEVELS[level].parity))
+        self.seen = tuple(seen_in(relations, frozenset(images), spare, joined(unread), LEVELS[level].parity, repeats))
         self.turns = TURNS_5 if level == LEVEL_5 else TURNS_6
 
     @property

@@ -13,8 +13,8 @@ from .images import Image
 
 # The superblock of btrfs: where it lies, its magic and where that stands, its identifier, how many devices there are, and the number of this one.
 BTRFS, BTRFS_MAGIC, MAGIC_PLACE, IDENTIFIER, DEVICES, DEVICE = 64 * KIB, b"_BHRfS_M", 64, 32, 0x88, 0xC9
-# The labels of ZFS: how long each is, and which bytes of it hold pairs of names and values.
-LABEL, PAIRS, PAIRS_BYTES = 256 * KIB, 16 * KIB, 112 * KIB
+# The labels of ZFS: how many there are, how long each is, and which bytes of it hold pairs of names and values.
+LABELS, LABEL, PAIRS, PAIRS_BYTES = 4, 256 * KIB, 16 * KIB, 112 * KIB
 # What stands in the pairs of each label, and what stands before the name of the pool: how long the name of the pair is, that name, and its type.
 IN_PAIRS, BEFORE_NAME = (b"pool_guid", b"vdev_tree"), b"\0\0\0\4name\0\0\0\x09\0\0\0\1"
 MAX_NAME = 256
@@ -74,11 +74,22 @@ def name_of(pairs: bytes) -> str:
     return pairs[place + 4:place + 4 + min(length, MAX_NAME)].decode("utf-8", "replace")
 
 
+def is_label(pairs: bytes) -> bool:
+    """Return whether pairs are those of a label."""
+    return all(word in pairs for word in IN_PAIRS)
+
+
+def has_all_labels(image: Image, device: Device) -> bool:
+    """Return whether all four labels of a device of ZFS are there. What writes an array over it writes over some of them."""
+    found = list(labels(image, device.first))
+    return len(found) == LABELS and all(map(is_label, found))
+
+
 def zfs_device(image: Image) -> Device | None:
     """Return the device of a ZFS pool that an image is; None for other images."""
     for first in places(image):
         for pairs in labels(image, first):
-            if all(word in pairs for word in IN_PAIRS):
+            if is_label(pairs):
                 return Device(image.number, first, name_of(pairs))
     return None
 

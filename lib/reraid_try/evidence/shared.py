@@ -101,3 +101,11 @@ def searched(found: Iterable[Place]) -> list[Place]:
     all that there is."""
     there = [place for place in found if not place.empty]
     return [place for place in there if place.tells] or there[:1]
+
+
+def of_partition(place: Place, disks: Sequence[Image]) -> list[Image]:
+    """Return the images that may be of the partition alone, or from its start on, beside those of whole disks: they have no table, are as long as the
+    partition at least, and shorter than a whole disk."""
+    whole = min(disk.sectors for disk in disks if disk.number in place.images)
+    there = [disk for disk in disks if disk.first is not None and disk.like is None and disk.number not in place.images]
+    return [disk for disk in there if not disk.table.own and place.count <= disk.sectors < whole]

@@ -183,7 +183,9 @@ def lines(told: Told, twins: Mapping[int, int] | None = None) -> list[str]:
         group = it.group
         if group.level == COPIES:
             said += [f"images {one} and {other} hold the same data" for one, other in group.copies]
-            if not group.copies:
+            if group.states:
+                said.append(states_line(*group.states))
+            elif not group.copies:
                 two = named(group.images) if len(group.images) == MIN_IMAGES else f"two of {named(group.images)}"
                 said.append(f"{two} hold the same data in {counted(group.rows, 'row')} of those sampled")
             continue
@@ -199,6 +201,12 @@ def lines(told: Told, twins: Mapping[int, int] | None = None) -> list[str]:
             said.append(f"{named(group.images)}: parity matches nothing in {counted(group.loose, 'row')} of those sampled, the first at sector "
                         f"{group.loose_first}. Possible causes: bad areas, an old or half rebuilt disk, parity that was never written")
     return said + parts_lines(told) + alone_lines(told, twins or {})
+
+
+def states_line(one: int, other: int) -> str:
+    """Return what is said of two images that may be states of one disk."""
+    return (f"images {one} and {other} hold the same data in many rows and different data in others: perhaps one is an older state of the other, as "
+            "of a disk that was replaced or imaged twice")
 
 
 def alone_lines(told: Told, twins: Mapping[int, int]) -> list[str]:

@@ -24,6 +24,8 @@ MAX_WAYS, MAX_PLACES, MAX_BEGINNINGS = 32, 8, 3
 PART, PASSES = 6, 3
 # Where partitions and the data of md begin, and the first extents of LVM2: multiples of so many sectors, from a first one on.
 GRIDS = ((0, 2048), (2048, 8192))
+# Where the data of md begin in a partition: behind its metadata, or at its start if the metadata are at its end.
+USUAL_BEGINNINGS = (2048, 0)
 # The sectors at which a text of LVM2 says that parts of volumes begin on some images, by their numbers.
 Starts = Mapping[int, Sequence[int]]
 
@@ -182,3 +184,17 @@ def guessed(images: Sequence[Image], found: Sequence[shifts.Shift]) -> tuple[int
 def barely_tied(known: Iterable[Known]) -> bool:
     """Nothing but few rows tie the images of these groups, as of those of which some begin at the same sector and others do not."""
     return all(it.group.level in (LEVEL_5, LEVEL_6) and not it.group.parity for it in known)
+
+
+def moved(ties: Ties, images: Sequence[Image], way: Sequence[int], end: int) -> list[Unlike]:
+    """The offsets of images whose data are known to begin so much further than those of another, if parity ties all of them."""
+    known = tied(ties, images, way, end)
+    return begun(ties, images, way, known[0], {}) if known else []
+
+
+def silent(images: Sequence[Image], way: Sequence[int]) -> list[tuple[int, ...]]:
+    """The offsets of such images if parity tells nothing: where they begin to hold something, and where data of partitions usually begin."""
+    here = {image.number: further for image, further in zip(images, way)}
+    firsts = [*held(here, {image.number: image for image in images}), *USUAL_BEGINNINGS]
+    shortest = min(image.sectors - further for image, further in zip(images, way))
+    return [tuple(first + further for further in way) for first in dict.fromkeys(firsts) if first < shortest][:MAX_BEGINNINGS]

@@ -10,6 +10,7 @@ from ..checks.alone import Alone, is_sound
 from ..checks.candidates import Candidate
 from ..checks.verdicts import Verdict
 from ..evidence import entropy, fills, homes, linear, pools
+from ..evidence.image_groups import ImageGroup
 from ..evidence.homes import Home
 from ..evidence.images import Image
 from ..evidence.linear import Group
@@ -22,6 +23,8 @@ from ..units import SECTOR, counted
 BTRFS_OPTIONS = "ro,rescue=nologreplay"
 ENCRYPTED = {"luks": "LUKS", "bitlocker": "BitLocker"}
 CLOSED = ("crypto_LUKS", "BitLocker")
+# Parity of ZFS fails in one of so many of the rows in which it holds, or in more.
+FEW_LOOSE = 16
 GO_ON = "  (to search for an array nevertheless, give --levels or --members)"
 
 
@@ -111,13 +114,14 @@ def mount_lines(verdict: Verdict, image: Image) -> list[str]:
     return lines + [line.text for line in typed.mounts(verdict, shown)]
 
 
-def too_many_lost(images: Sequence[Image]) -> Answer | None:
-    """Return the answer if a file system is longer than all images together."""
-    home = homes.too_long(images)
+def too_many_lost(images: Sequence[Image], supers: Sequence[tuple[int, int]] = ()) -> Answer | None:
+    """Return the answer if a file system is longer than all images together; `supers` are the places of superblocks that landmarks tell of."""
+    home = homes.too_long(images, supers)
     if home is None:
         return None
     most = max(image.sectors for image in images)
-    what = f"the {home.kind} that begins at sector {home.first} of image {home.image.number}"
+    where = "with a superblock at" if home.is_copy else "that begins at"
+    what = f"the {home.kind} {where} sector {home.first} of image {home.image.number}"
     there = f"{counted(len(images), 'image')} of at most {most} sectors"
     return Answer(Kind.LOST, f"too many disks are missing: {what} states that it has {home.sectors} sectors. {there} cannot hold it, with parity or "
                   f"without: it needs at least {-(-home.sectors // most)}. Only files that lie within one chunk can be found, by a program such as "
@@ -153,10 +157,11 @@ def closed(tested: Sequence[Candidate]) -> Answer | None:
 
 
 class Answers:
-    """Looks for a plain answer. `images` are those that hold something, `different` each once of those that hold the same."""
+    """Looks for a plain answer. `images` are those that hold something, `different` each once of those that hold the same, `supers` the images and
+    sectors of superblocks that landmarks tell of."""
 
-    def __init__(self, alone: Alone, ties: Ties, images: Sequence[Image], jobs: int) -> None:
-        self.alone, self.ties, self.jobs = alone, ties, jobs
+    def __init__(self, alone: Alone, ties: Ties, images: Sequence[Image], jobs: int, supers: Sequence[tuple[int, int]] = ()) -> None:
+        self.alone, self.ties, self.jobs, self.supers = alone, ties, jobs, supers
         self.images = [image for image in images if image.first is not None]
         self.different = [image for image in self.images if image.like is None]
 
@@ -173,7 +178,15 @@ class Answers:
         if found is None or any(home.kind != "btrfs" or found.kind is Kind.ZFS for home in homes.all_homes(self.different)):
             return None
         told = self.ties.told([image.number for image in self.different], 0, min(image.sectors for image in self.different))
-        return None if fills.telling(told) else found
+        return found if all(self.is_of_pool(it, found.kind) for it in fills.telling(told)) else None
+
+    def is_of_pool(self, group: ImageGroup, kind: Kind) -> bool:
+        """Return whether the parity of some images is that of a pool of ZFS, which has parity of its own in each block. It holds in a part of the
+        rows, and all labels are there."""
+        if kind is not Kind.ZFS or FEW_LOOSE * group.loose < group.rows:
+            return False
+        found = [(image, pools.zfs_device(image)) for image in self.different if image.number in group.images]
+        return all(device is not None and pools.has_all_labels(image, device) for image, device in found)
 
     def by_itself(self) -> Answer | None:
         """Return the answer if each image holds a file system by itself, or if all hold the same."""
@@ -219,6 +232,6 @@ class Answers:
         """Return the answer that is given if nothing that the images give a reason for has a rating; `told` is what parity tells of the images, and
         `tested` are the candidates."""
         # With as many disks lost as the level bears there are as many data disks as images.
-        if lost := too_many_lost(self.different) if not any(it.group.parity for it in told.known) else None:
+        if lost := too_many_lost(self.different, self.supers) if not any(it.group.parity for it in told.known) else None:
             return lost
         return closed(tested) or encrypted(self.different, told)

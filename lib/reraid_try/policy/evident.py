@@ -1,6 +1,7 @@
 """The first part of a search: what the images themselves say of their array is printed, and tried before all else."""
 
 import collections
+import contextlib
 import dataclasses
 import functools
 import itertools
@@ -16,7 +17,7 @@ from ..checks.verdicts import Score
 from ..errors import OutsideError, said
 from ..evidence import copies as copying
 from ..evidence import stopped as early_ends
-from ..evidence import gathered, hints, metadata, places, sampling, shared, shifts, ties, unlike
+from ..evidence import gathered, hints, metadata, patterns, places, sampling, shared, shifts, ties, unlike
 from ..evidence.image_groups import LEVEL_5, LEVEL_6
 from ..evidence.images import Image
 from ..evidence.places import Places
@@ -51,10 +52,11 @@ class Later:
 
 @dataclasses.dataclass(frozen=True)
 class Part:
-    """A part of some disks, by their numbers, that is searched for itself."""
+    """A part of some disks, by their numbers, that is searched for itself. Of a partition `alone` are images that may be of it alone."""
 
     images: tuple[int, ...]
     span: Span
+    alone: tuple[int, ...] = ()
 
 
 def is_closed(it: Candidate) -> bool:
@@ -132,7 +134,7 @@ class Evident:
             report.say("place", f"{place.line()}{said}", first=place.first, sectors=place.count, images=list(place.images), copied=place.copied,
                        empty=place.empty, searched=place in searched)
         for place in searched:
-            yield Part(place.images, Span(place.first, place.end, True))
+            yield Part(place.images, Span(place.first, place.end, True), tuple(it.number for it in shared.of_partition(place, images)))
         if not searched and images:
             yield Part(tuple(image.number for image in images), Span(0, min(image.sectors for image in images)))
 
@@ -160,7 +162,34 @@ class Evident:
         others = [*early, *self.unlike(asked, found, part), *perhaps[:1], *tied, *perhaps[1:], *copied, *alike[len(early):], *untied]
         others = others or plain.unexplained(found, part.images, part.span, self.options)
         others = plain.with_thousands(others, plain.silent(found, part.images, self.options))
-        return [*self.by_metadata(part), *self.without_stopped(found, part), *others]
+        # Copies of two images alone may be those of a RAID 10, which is soon looked for.
+        alone = all(len(it.group.images) == 2 for it in found.known if it.group.states)
+        others[len(others) - len(untied) if alone else 0:0] = self.without_states(found, part)
+        return [*self.by_metadata(part), *self.of_partition(part), *self.without_stopped(found, part), *others]
+
+    def of_partition(self, part: Part) -> list[Target]:
+        """What is tried of a partition of whole disks together with images that are of it alone: data begin there at another sector."""
+        if not part.alone:
+            return []
+        images = [self.search.images[number] for number in sorted((*part.images, *part.alone))]
+        numbers, way = [image.number for image in images], [0 if image.number in part.alone else part.span.first for image in images]
+        self.say("place", [f"{ties.named(part.alone)}: no partition table, and shorter than whole disks. Perhaps of only the partition"])
+        span = Span(0, min(image.sectors for image in images))
+        tied = unlike.moved(self.asked(), images, way, span.end)
+        if tied:
+            return [plain.unlike_target(it, numbers, span, self.options) for it in tied]
+        return plain.moved_targets(unlike.silent(images, way), numbers, span, self.options)
+
+    def without_states(self, found: Told, part: Part) -> list[Target]:
+        """What is tried of a part without each in turn of two images that may be states of one disk, after what is known of the rest is printed."""
+        targets: list[Target] = []
+        states = plain.states(found) or ()
+        for out, kept in itertools.permutations(states, 2):
+            rest = tuple(number for number in part.images if number != out)
+            told = self.asked().told(rest, part.span.first, part.span.end)
+            self.say("relation", [f"without image {out}: {line}" for line in ties.lines(told)])
+            targets += plain.without_state(told, rest, (out, kept), part.span, self.options)
+        return targets
 
     def without_stopped(self, found: Told, part: Part) -> list[Target]:
         """What is tried of a part without images whose imaging may have stopped, which are named."""
@@ -195,7 +224,8 @@ class Evident:
         members = metadata.examine(self.search.commands, self.search.room.base, names, place)
         members += metadata.examine_lvm({number: part.span.first for number in names}, names)
         self.say("metadata", (it.line(f"image {it.image}") for it in members))
-        found = [plain.metadata_target(it, part.span, self.options) for it in metadata.arrays(members)]
+        bare = sorted(set(part.images) - {it.image for it in members})
+        found = [plain.metadata_target(it, part.span, self.options, bare) for it in metadata.arrays(members)]
         # A set with an offset for each image has to name all.
         named = [target for target in found if target and target.shapes and (not target.is_each or len(target.images) == len(self.search.images))]
         if not sampling.is_large(part.span.first, min(part.span.end, part.span.first + self.options.first // SECTOR)):
@@ -266,13 +296,20 @@ class Evident:
                 later.append(Later(target, scope))
             else:
                 self.relaxed(scope, target, before)
+        self.test_other_states(target, before)
         search.why = ""
         return any(map(enough, self.since(before)))
 
+    def test_other_states(self, target: Target, before: int) -> None:
+        """Tests each set of a target that has a rating with the other state of an image in its slot, so that their files are compared."""
+        for it in [it for it in self.since(before) if target.states and it.score >= Score.CHECKED]:
+            if other := plain.other_state(target, it.word, it.step.shape):
+                self.seek(other, [])
+
     def test_named(self, scope: Scope, target: Target, text: str) -> None:
-        """Tests the set that metadata name."""
+        """Tests the set that metadata name, or that another state of a disk gives."""
         word, shape = read_word(text).over(target.images), target.shapes[0]
-        listing = Listing((Ranked(0, word.text),), 1, True, "named by metadata")
+        listing = Listing((Ranked(0, word.text),), 1, True, "with another state of a disk" if target.states else "named by metadata")
         if word.copying:
             step = Step(shape, copied=Copied((word.copying,), shape.members, shape.missing))
         else:
@@ -339,7 +376,11 @@ class Evident:
         if not asked or target.is_each and not target.moved or shape.levels not in (LEVEL_5, LEVEL_6):
             return None
         found = self.zero_rows(target)
-        return Places(found, target.images, shape.levels, shape.members, self.unread(target)) if found else None
+        if not found:
+            return None
+        names = {number: self.search.images[number].name for number in target.images}
+        with contextlib.closing(patterns.Sectors(names, target.moved)) as sectors:
+            return Places(found, target.images, shape.levels, shape.members, self.unread(target), sectors.repeat)
 
     def zero_rows(self, target: Target) -> Relations | None:
         """The relations of many rows of the images of a target, kept until others are asked for; None where they were not had in their time."""

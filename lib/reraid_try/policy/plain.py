@@ -3,7 +3,7 @@
 import dataclasses
 from collections.abc import Iterable, Iterator, Sequence
 
-from ..calls.sets import LEVELS, read_word
+from ..calls.sets import LEVELS, Word, read_word
 from ..evidence import metadata, shifts, ties
 from ..evidence.image_groups import COPIES, LEVEL_5, ImageGroup
 from ..evidence.gathered import MAX_WINDOW
@@ -56,7 +56,7 @@ class Target:
     members that may be missing where copies are asked for; `by_thousands` are the shapes at
     which landmarks by the thousand are asked where they fit, before all else; `unsound` is tried besides, whatever is found without some images;
     `first` is how many bytes of each image are read for it, None where it is as many as for all others; `word` is the one set that is tried; `halves`
-    are pairs of which each image is left out in turn."""
+    are pairs of which each image is left out in turn; `states` are an image that is left out, and the one of which it may be another state."""
 
     images: tuple[int, ...]
     span: Span
@@ -74,6 +74,7 @@ class Target:
     first: int | None = None
     word: str | None = None
     halves: tuple[tuple[int, int], ...] = ()
+    states: tuple[int, int] | None = None
 
     @property
     def is_each(self) -> bool:
@@ -144,8 +145,18 @@ def guessed_targets(offsets: Sequence[int], numbers: Sequence[int], span: Span, 
     return [Target(tuple(numbers), span, why, shapes, asked)] if shapes else []
 
 
-def metadata_target(members: Sequence[Member], span: Span, options: Options) -> Target | None:
-    """What is tried of images whose metadata name an array; None where a set has no words for it, or level 10 is named, of which copies tell."""
+def moved_targets(offsets: Iterable[tuple[int, ...]], numbers: Sequence[int], span: Span, options: Options) -> list[Target]:
+    """What is tried of images of which some are of a partition alone, if parity does not tie them, by where their data may begin."""
+    count = len(numbers)
+    shapes = allowed([Shape("5", count + 1, 1), Shape("6", count + 2, 2), Shape("0", count)], options)
+    why = f"{ties.named(numbers)}: some are of only a partition, so their data begin at sectors"
+    return [Target(tuple(numbers), span, f"{why} {', '.join(map(str, it))}", shapes,
+                   (("mode", "each"), ("offsets", listed(it)), ("window", str(EACH_WINDOW))), moved=it) for it in offsets if shapes]
+
+
+def metadata_target(members: Sequence[Member], span: Span, options: Options, bare: Sequence[int] = ()) -> Target | None:
+    """What is tried of images whose metadata name an array; None where a set has no words for it, or level 10 is named, of which copies tell. If more
+    disks are missing than the level bears, all images without metadata, `bare`, are tried as the others."""
     left_out = metadata.old(members)
     placed = [it for it in members if it not in left_out and it.slot is not None]
     head = metadata.head_of(placed[0]) if placed else None
@@ -155,9 +166,12 @@ def metadata_target(members: Sequence[Member], span: Span, options: Options) -> 
     offsets = {it.offset or 0 for it in placed}
     asked = [("patterns", pattern), ("syndromes", order), ("offsets", listed(offsets)), *chunks(placed[0].chunk)]
     asked += [("mode", "each"), ("window", str(EACH_WINDOW))] if len(offsets) > 1 else []
-    images = tuple(sorted({it.image for it in placed}))
-    shapes = allowed([Shape(level, placed[0].disks, placed[0].disks - len(images))], options) if len(images) <= placed[0].disks else ()
-    return Target(images, span, f"metadata on {ties.named(images)} ({placed[0].source}) describe it, and may be wrong", shapes, tuple(asked))
+    named, disks = tuple(sorted({it.image for it in placed})), placed[0].disks
+    images = named if disks - len(named) <= LEVELS[level].parity else tuple(sorted({*named, *bare}))
+    shapes = allowed([Shape(level, disks, disks - len(images))], options) if 0 <= disks - len(images) <= LEVELS[level].parity else ()
+    why = f"metadata on {ties.named(named)} ({placed[0].source}) describe it, and may be wrong"
+    why += f"; {ties.named(bare)} have none, and are tried as its other disks" if images != named else ""
+    return Target(images, span, why, shapes, tuple(asked))
 
 
 def named_target(members: Sequence[Member], span: Span, options: Options, images: int) -> Target | None:
@@ -229,6 +243,31 @@ def halves_targets(told: Told, images: Sequence[Image], span: Span, options: Opt
         return []
     said = "; ".join(f"images {one} and {other} hold the same in most rows: one may be an older state of the other" for one, other in halves)
     return [Target(tuple(image.number for image in images), span, f"{said}, so each is left out in turn", copied=True, halves=halves)]
+
+
+def states(told: Told) -> tuple[int, int] | None:
+    """Return the two images of which one may be an older state of the other; None if there are none."""
+    return next((it.group.states for it in told.known if it.group.states), None)
+
+
+def without_state(told: Told, numbers: Sequence[int], out: tuple[int, int], span: Span, options: Options) -> list[Target]:
+    """What is tried of images without one that may be another state of the second, by what relations tell of the rest: arrays with parity, and RAID
+    0. RAID 10 is tried by itself."""
+    found = [*tied(told, numbers, span, options), *untied(told, numbers, span, options)]
+    why = f"without image {out[0]}, which may be an older state of image {out[1]}"
+    found = [dataclasses.replace(it, why=f"{why}, {it.why}", states=out) for it in found]
+    return with_thousands(found, silent(told, numbers, options))
+
+
+def other_state(target: Target, word: Word, shape: Shape) -> Target | None:
+    """Return what is tried beside a set: the set with the other state of an image. None if the set has no image of which there are two states."""
+    out, kept = target.states or (None, None)
+    if out is None or kept not in word.images or word.is_each:
+        return None
+    other = word.having(tuple(out if slot == kept else slot for slot in word.slots))
+    asked = (("offsets", str(word.offset)), ("chunks", str(word.chunk)))
+    return Target(tuple(sorted(other.images)), target.span, f"the layout that was found, with image {out} in place of image {kept}", (shape,), asked,
+                  word=other.text, states=(out, out))
 
 
 def apart_target(distance: int, numbers: Sequence[int], span: Span) -> Target:

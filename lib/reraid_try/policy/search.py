@@ -75,7 +75,7 @@ class Search:
         self.why = ""
         self.answer: Answer | None = None
         self.hopeless: Answer | None = None
-        self.asked_late: Told | None = None
+        self.asked_late: tuple[Told, tuple[tuple[int, int], ...]] | None = None
         self.asked_ties: Ties | None = None
 
     def run(self) -> None:
@@ -181,7 +181,7 @@ class Search:
         self.report.bar.show("looks whether the images are an array")
         alone = Alone(self.commands, self.room, self.options.first)
         try:
-            return ask(Answers(alone, self.ties, self.images, self.options.jobs))
+            return ask(Answers(alone, self.ties, self.images, self.options.jobs, self.supers))
         except OSError as error:
             raise OutsideError(f"an image cannot be read: {said(error)}") from error
 
@@ -203,10 +203,16 @@ class Search:
         return found is not None and found.kind is Kind.ENCRYPTED
 
     def late_answer(self, told: Told) -> Answer | None:
-        """What the images are by what parity tells of them, asked once of that."""
-        if self.asked_late != told:
-            self.asked_late, self.hopeless = told, self.asked_for_answer(lambda answers: answers.late(told, ()))
+        """What the images are by what parity tells of them, and superblocks, asked once of these."""
+        if self.asked_late != (told, self.supers):
+            self.asked_late, self.hopeless = (told, self.supers), self.asked_for_answer(lambda answers: answers.late(told, ()))
         return self.hopeless
+
+    @property
+    def supers(self) -> tuple[tuple[int, int], ...]:
+        """The image and the sector of each superblock of XFS that landmarks tell of: it says how long the file system is."""
+        marks = (mark for scope in self.scopes for group in scope.plan.groups if group.kind == "xfs" for mark in group.marks)
+        return tuple(dict.fromkeys((mark.image, mark.sector) for mark in marks if mark.kind == "super"))
 
     def say_answer(self) -> None:
         """Says what the images are, if they are no array that can be searched."""

@@ -374,6 +374,8 @@ class Amounts(Here):
                                     "if one disk holds all")
         self.assertEqual(amounts.lasting(7200.0), "2.0 h")
         self.assertEqual(amounts.in_all(3 * GIB, 2), "all commands together read at most 3.0 GiB, 1.5 GiB of each image on average")
+        self.assertEqual(amounts.in_all(3 * GIB, 2, 124), "all commands together read at most 3.0 GiB, 1.5 GiB of each image on average. The first "
+                                                         "rated layout was found after 2 min")
 
     def test_first_pass(self) -> None:
         """Holes are not counted; of small images nothing is said."""

@@ -17,6 +17,7 @@ from typing import Any, cast
 from unittest import mock
 
 from reraid_try import main, options
+from reraid_try.calls import meter
 from reraid_try.calls.commands import Answer
 from reraid_try.calls.formats import Ranked
 from reraid_try.calls.program import LAST
@@ -26,6 +27,7 @@ from reraid_try.checks import checkers
 from reraid_try.checks.verdicts import Score
 from reraid_try.checks.volumes import Room
 from reraid_try.errors import OutsideError, Stopped
+from reraid_try.evidence import amounts
 from reraid_try.options import Options
 from reraid_try.policy import relaxations
 from reraid_try.policy.relaxations import RelaxationKind
@@ -111,6 +113,22 @@ class Runs(InFolder):
         self.assertEqual((search.best(), search.solved, self.standin.count("reraid list"), self.standin.count("reraid survey")),
                          (Score.NOTHING, True, 0, 0))
         self.assertNotIn("diagnosis", self.report.text)
+
+    def test_when_it_was_rated(self) -> None:
+        """Of large images a line at the end says when the first layout was found that has a rating at the end; of others none."""
+        search = self.search()
+        search.look()
+        for since, spoken_against in ((8, True), (30, False), (70, False), (None, False)):
+            found = types.SimpleNamespace(since=since, score=Score.KNOWN if spoken_against else Score.CHECKED)
+            search.tested.append(cast(Any, found))
+        with mock.patch.object(meter, "read_of_images", lambda: 6 << 30):
+            search.say_amount()
+            self.assertFalse(any("all commands" in line for line in self.report.lines))
+            with mock.patch.object(amounts, "first_pass", lambda *_: amounts.Amount((1,))):
+                search.say_amount()
+        self.assertEqual(self.report.lines[-1], "all commands together read at most 6.0 GiB, 2.0 GiB of each image on average. The first rated layout "
+                                                "was found after 30 s")
+        self.assertEqual(self.report.record.last("read")["rated"], 30)
 
     def test_zeros_end_it(self) -> None:
         """Images of nothing but zeros are not searched; one that is too long to be read is."""

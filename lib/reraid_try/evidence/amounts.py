@@ -48,6 +48,7 @@ def lasting(seconds: float) -> str:
     return f"{seconds / MINUTE:.0f} min" if seconds < 2 * HOUR else f"{seconds / HOUR:.1f} h"
 
 
-def in_all(read: int, images: int) -> str:
-    """Return what is said at the end of how much was read."""
-    return f"all commands together read at most {read / GIB:.1f} GiB, {read / max(1, images) / GIB:.1f} GiB of each image on average"
+def in_all(read: int, images: int, rated: int | None = None) -> str:
+    """Return what is said at the end of how much was read, and after how many seconds the first layout was rated, if one was."""
+    since = "" if rated is None else f". The first rated layout was found after {lasting(rated)}"
+    return f"all commands together read at most {read / GIB:.1f} GiB, {read / max(1, images) / GIB:.1f} GiB of each image on average{since}"

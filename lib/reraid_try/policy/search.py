@@ -97,10 +97,11 @@ class Search:
         self.say_amount()
 
     def say_amount(self) -> None:
-        """Says how much was read of large images by now."""
-        read = meter.read_of_images()
+        """Says how much was read of large images by now, and when the first layout was found that has a rating still."""
+        read, rated = meter.read_of_images(), [it.since for it in self.tested if it.since is not None and it.score >= Score.CHECKED]
+        first = min(rated, default=None)
         if read and amounts.first_pass(self.images, self.options.first):
-            self.report.say("read", amounts.in_all(read, len(self.images)), bytes=read)
+            self.report.say("read", amounts.in_all(read, len(self.images), first), bytes=read, rated=first)
 
     def say_reshapes(self) -> None:
         """Says once more where ties change for good, where nothing has a rating."""

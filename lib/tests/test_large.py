@@ -31,6 +31,7 @@ from reraid_try.policy.mirrors import Grouped
 from reraid_try.policy.plain import Target, Span
 from reraid_try.policy.shapes import Shape
 from reraid_try.policy.steps import Step
+from reraid_try.units import ALL
 from tests.standin import Here, Standin, put
 
 SECTOR, MIB, GIB = 512, 1 << 20, 1 << 30
@@ -373,9 +374,10 @@ class Amounts(Here):
         self.assertEqual(it.text(), ", 131072 MiB without holes. Reading that once at 150 MB/s takes 115 s if each image is on its own disk, 15 min "
                                     "if one disk holds all")
         self.assertEqual(amounts.lasting(7200.0), "2.0 h")
+        self.assertEqual([amounts.bound(first) for first in (16 * GIB, ALL)],
+                         [". After 24 GiB of each image no step begins, if a layout has a rating", ""])
         self.assertEqual(amounts.in_all(3 * GIB, 2), "all commands together read at most 3.0 GiB, 1.5 GiB of each image on average")
-        self.assertEqual(amounts.in_all(3 * GIB, 2, 124), "all commands together read at most 3.0 GiB, 1.5 GiB of each image on average. The first "
-                                                         "rated layout was found after 2 min")
+        self.assertEqual(amounts.in_all(3 * GIB, 2, 124), amounts.in_all(3 * GIB, 2) + ". The first rated layout was found after 2 min")
 
     def test_first_pass(self) -> None:
         """Holes are not counted; of small images nothing is said."""

@@ -126,9 +126,28 @@ class Runs(InFolder):
             self.assertFalse(any("all commands" in line for line in self.report.lines))
             with mock.patch.object(amounts, "first_pass", lambda *_: amounts.Amount((1,))):
                 search.say_amount()
-        self.assertEqual(self.report.lines[-1], "all commands together read at most 6.0 GiB, 2.0 GiB of each image on average. The first rated layout "
-                                                "was found after 30 s")
+        self.assertEqual(self.report.lines[-1], f"{amounts.in_all(6 << 30, 3)}. The first rated layout was found after 30 s")
         self.assertEqual(self.report.record.last("read")["rated"], 30)
+
+    def test_no_step_begins_at_the_bound(self) -> None:
+        """Once all commands have read 8 GiB of each large image after the first pass, a layout with a rating ends the search; without one a line
+        says that it goes on. Images that are not large have no bound."""
+        rated, unrated = (cast(Any, types.SimpleNamespace(score=score)) for score in (Score.CHECKED, Score.KNOWN))
+        for read, tested, is_large, ended, said in ((24, rated, True, True, "the search ends"), (23.9, rated, True, False, ""),
+                                                    (24, unrated, True, False, "the search continues"), (90, rated, False, False, "")):
+            search = self.search()
+            search.look()
+            search.tested.append(tested)
+            amount = amounts.Amount((1,)) if is_large else None
+            with mock.patch.object(meter, "read_of_images", lambda: int(read * 3 * (1 << 30))), \
+                    mock.patch.object(amounts, "first_pass", lambda *_: amount):
+                self.assertEqual([search.is_read(), search.is_read()], [ended, ended], (read, is_large))
+                scope: Any = None
+                if ended:
+                    self.assertTrue(search.attempt(scope, Shape("5", 3), (), cast(Any, None)))
+                    self.assertTrue(search.near_mirrors(cast(Any, types.SimpleNamespace(evidence=search)), 0))
+            lines = [line for line in self.report.lines if "of each image is read" in line]
+            self.assertEqual([said in line for line in lines], [True] if said else [], lines)
 
     def test_zeros_end_it(self) -> None:
         """Images of nothing but zeros are not searched; one that is too long to be read is."""

@@ -3,7 +3,8 @@
 import dataclasses
 from collections.abc import Sequence
 
-from ..units import GIB, MIB, SECTOR
+from ..calls.meter import MAX_AFTER
+from ..units import ALL, GIB, MIB, SECTOR
 from . import extents, sampling
 from .images import Image
 
@@ -39,6 +40,12 @@ def first_pass(images: Sequence[Image], first: int) -> Amount | None:
     if not any(sampling.is_large(0, min(image.sectors, first // SECTOR)) for image in images):
         return None
     return Amount(tuple(SECTOR * extents.total(extents.held(image.name, 0, min(image.sectors, first // SECTOR))) for image in images))
+
+
+def bound(first: int) -> str:
+    """Return what is said before large images are read of where all steps end, of which the first pass reads so many bytes of each; nothing if it
+    reads all."""
+    return "" if first == ALL else f". After {(first + MAX_AFTER) / GIB:.3g} GiB of each image no step begins, if a layout has a rating"
 
 
 def lasting(seconds: float) -> str:

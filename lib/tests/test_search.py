@@ -171,6 +171,16 @@ class Runs(InFolder):
             self.assertEqual(sum(line.startswith(f"{search.room.base} has ") for line in self.report.lines), said)
             self.assertEqual(self.report.record.last("room").get("images", 3 * SIZE * SECTOR), 3 * SIZE * SECTOR)
 
+    def test_mounted_volumes_need_no_room(self) -> None:
+        """Where volumes are mounted only copies need room, and nothing else is said."""
+        search = self.search()
+        search.room.mounts = True
+        with mock.patch.object(Room, "free", lambda _: SECTOR):
+            search.look()
+        line, = (line for line in self.report.lines if line.startswith(f"{search.room.base} has "))
+        self.assertIn("A checker that needs a copy of a longer file system does not run", line)
+        self.assertNotIn("for volumes", line)
+
     def test_a_small_file_system_has_no_rating(self) -> None:
         few: dict[str, Any] = {"levels": ("5",), "members": (3,), "seconds": 1}
         search = self.run_search(self.search(self.listing("levels 5\n"), self.volume(length=512 * 1024), **few))

@@ -260,9 +260,12 @@ class Search:
         if self.room.free() < held and not self.said_room:
             self.said_room = True
             free = self.room.free()
-            self.report.say("room", f"{self.room.base} has {size_said(free)} for volumes, and the images hold {size_said(held)}. Of larger volumes "
-                            "only the beginning is checked, or nothing, and the table reports it (--room DIR names another folder)",
-                            folder=self.room.base, free=free, images=held)
+            said = (f"{self.room.base} has {size_said(free)} for volumes, and the images hold {size_said(held)}. Of larger volumes only the "
+                    "beginning is checked, or nothing, and the table reports it")
+            if self.room.mounts:
+                said = (f"{self.room.base} has {size_said(free)} free. A checker that needs a copy of a longer file system does not run, and the "
+                        "table reports it")
+            self.report.say("room", f"{said} (--room DIR names another folder)", folder=self.room.base, free=free, images=held)
 
     def look_for_fills(self) -> None:
         """The texts that stand in images in place of what could not be read, a line each that was not printed before; they count as unread."""

@@ -354,6 +354,39 @@ class Last(Here):
         self.assertEqual(Image("a", 0, 900, first=8).line(), "image 0 a: 900 sectors, non-zero from sector 8 on")
 
 
+class Middle(Here):
+    """Disks of an array whose data lie behind what is read first of large images, and before what is read last."""
+
+    LENGTH = 64 * MIB // SECTOR
+
+    def look(self, parts: Mapping[int, bytes]) -> tuple[int | None, int | None]:
+        """The first and the last sector with data of an image, of which a MiB is read at both its ends."""
+        image = images_module.look(sparse("a", self.LENGTH, parts), 0, MIB)
+        return image.first, image.last
+
+    def test_sparse(self) -> None:
+        """Data in the middle alone are seen: the image is no zeros. What lies at an end, or behind zeros that are held, is seen as well."""
+        zeros, data = bytes(MIB), b"x" * SECTOR
+        self.assertEqual(self.look({}), (None, None))
+        self.assertEqual(self.look({50000: data}), (50000, 50000))
+        self.assertEqual(self.look({30000: zeros, 50000: data, 60000: data}), (50000, 60000))
+        self.assertEqual(self.look({100: data, 50000: data}), (100, 50000))
+        self.assertEqual(self.look({50000: data, self.LENGTH - 1: data}), (50000, self.LENGTH - 1))
+        self.assertEqual(self.look({100: data}), (100, 100))
+
+    def test_in_steps(self) -> None:
+        """Behind many zeros that are held single sectors are looked at, all over what is held."""
+        parts = {40000: bytes(2 * MIB), 60000: b"x" * 4000 * SECTOR}
+        with mock.patch.multiple(reading, MAX_BACK=MIB, STEPS_ON=50):
+            first, _ = self.look(parts)
+        assert first is not None
+        self.assertTrue(60000 <= first < 60500, first)
+        with mock.patch.multiple(reading, MAX_BACK=MIB, STEPS_ON=50), mock.patch.object(reading, "data_runs", lambda _, first, last: [(first, last)]):
+            first, _ = self.look(parts)
+        assert first is not None
+        self.assertTrue(60000 <= first < 64000, first)
+
+
 class Bounds(unittest.TestCase):
     def test_ended(self) -> None:
         """A command that reads without an end is ended once the bound is reached, and that is told."""

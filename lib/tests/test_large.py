@@ -31,6 +31,7 @@ from reraid_try.policy.mirrors import Grouped
 from reraid_try.policy.plain import Target, Span
 from reraid_try.policy.shapes import Shape
 from reraid_try.policy.steps import Step
+from reraid_try.units import ALL
 from tests.standin import Here, Standin, put
 
 SECTOR, MIB, GIB = 512, 1 << 20, 1 << 30
@@ -248,6 +249,17 @@ class OneSurvey(Here):
         fewer.seen(self.asked("ext"))
         self.assertEqual(runner.count("reraid survey"), 1)
 
+    def test_held_in_memory(self) -> None:
+        """What sparse images hold is kept in memory for a survey up to a bound, which leaves room in 1 GiB; beyond it the images themselves are
+        read."""
+        names = [sparse(name, self.END, {1 << 20: b"x" * MIB}) for name in "ab"]
+        for most, is_kept in ((2 * MIB, True), (2 * MIB - SECTOR, False)):
+            surveys, runner = self.surveys(names)
+            with mock.patch.object(surveying, "MAX_HELD", most):
+                surveys.seen(self.asked("ext"))
+            self.assertEqual(runner.asked[0][0][-2:] != names, is_kept)
+        self.assertLessEqual(surveying.MAX_HELD, 3 * GIB // 4)
+
     def test_small(self) -> None:
         """Images of 4 GiB are surveyed for what is asked."""
         surveys, runner = self.surveys([sparse(name, 100, {}) for name in "ab"])
@@ -357,6 +369,39 @@ class Last(Here):
         self.assertEqual(Image("a", 0, 900, first=8).line(), "image 0 a: 900 sectors, non-zero from sector 8 on")
 
 
+class Middle(Here):
+    """Disks of an array whose data lie behind what is read first of large images, and before what is read last."""
+
+    LENGTH = 64 * MIB // SECTOR
+
+    def look(self, parts: Mapping[int, bytes]) -> tuple[int | None, int | None]:
+        """The first and the last sector with data of an image, of which a MiB is read at both its ends."""
+        image = images_module.look(sparse("a", self.LENGTH, parts), 0, MIB)
+        return image.first, image.last
+
+    def test_sparse(self) -> None:
+        """Data in the middle alone are seen: the image is no zeros. What lies at an end, or behind zeros that are held, is seen as well."""
+        zeros, data = bytes(MIB), b"x" * SECTOR
+        self.assertEqual(self.look({}), (None, None))
+        self.assertEqual(self.look({50000: data}), (50000, 50000))
+        self.assertEqual(self.look({30000: zeros, 50000: data, 60000: data}), (50000, 60000))
+        self.assertEqual(self.look({100: data, 50000: data}), (100, 50000))
+        self.assertEqual(self.look({50000: data, self.LENGTH - 1: data}), (50000, self.LENGTH - 1))
+        self.assertEqual(self.look({100: data}), (100, 100))
+
+    def test_in_steps(self) -> None:
+        """Behind many zeros that are held single sectors are looked at, all over what is held."""
+        parts = {40000: bytes(2 * MIB), 60000: b"x" * 4000 * SECTOR}
+        with mock.patch.multiple(reading, MAX_BACK=MIB, STEPS_ON=50):
+            first, _ = self.look(parts)
+        assert first is not None
+        self.assertTrue(60000 <= first < 60500, first)
+        with mock.patch.multiple(reading, MAX_BACK=MIB, STEPS_ON=50), mock.patch.object(reading, "data_runs", lambda _, first, last: [(first, last)]):
+            first, _ = self.look(parts)
+        assert first is not None
+        self.assertTrue(60000 <= first < 64000, first)
+
+
 class Bounds(unittest.TestCase):
     def test_ended(self) -> None:
         """A command that reads without an end is ended once the bound is reached, and that is told."""
@@ -388,7 +433,10 @@ class Amounts(Here):
         self.assertEqual(it.text(), ", 131072 MiB without holes. Reading that once at 150 MB/s takes 115 s if each image is on its own disk, 15 min "
                                     "if one disk holds all")
         self.assertEqual(amounts.lasting(7200.0), "2.0 h")
+        self.assertEqual([amounts.bound(first) for first in (16 * GIB, ALL)],
+                         [". After 24 GiB of each image no step begins, if a layout has a rating", ""])
         self.assertEqual(amounts.in_all(3 * GIB, 2), "all commands together read at most 3.0 GiB, 1.5 GiB of each image on average")
+        self.assertEqual(amounts.in_all(3 * GIB, 2, 124), amounts.in_all(3 * GIB, 2) + ". The first rated layout was found after 2 min")
 
     def test_first_pass(self) -> None:
         """Holes are not counted; of small images nothing is said."""

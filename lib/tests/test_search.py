@@ -17,6 +17,7 @@ from typing import Any, cast
 from unittest import mock
 
 from reraid_try import main, options
+from reraid_try.calls import meter
 from reraid_try.calls.commands import Answer
 from reraid_try.calls.formats import Ranked
 from reraid_try.calls.program import LAST
@@ -26,6 +27,7 @@ from reraid_try.checks import checkers
 from reraid_try.checks.verdicts import Score
 from reraid_try.checks.volumes import Room
 from reraid_try.errors import OutsideError, Stopped
+from reraid_try.evidence import amounts
 from reraid_try.options import Options
 from reraid_try.policy import relaxations
 from reraid_try.policy.relaxations import RelaxationKind
@@ -112,6 +114,41 @@ class Runs(InFolder):
                          (Score.NOTHING, True, 0, 0))
         self.assertNotIn("diagnosis", self.report.text)
 
+    def test_when_it_was_rated(self) -> None:
+        """Of large images a line at the end says when the first layout was found that has a rating at the end; of others none."""
+        search = self.search()
+        search.look()
+        for since, spoken_against in ((8, True), (30, False), (70, False), (None, False)):
+            found = types.SimpleNamespace(since=since, score=Score.KNOWN if spoken_against else Score.CHECKED)
+            search.tested.append(cast(Any, found))
+        with mock.patch.object(meter, "read_of_images", lambda: 6 << 30):
+            search.say_amount()
+            self.assertFalse(any("all commands" in line for line in self.report.lines))
+            with mock.patch.object(amounts, "first_pass", lambda *_: amounts.Amount((1,))):
+                search.say_amount()
+        self.assertEqual(self.report.lines[-1], f"{amounts.in_all(6 << 30, 3)}. The first rated layout was found after 30 s")
+        self.assertEqual(self.report.record.last("read")["rated"], 30)
+
+    def test_no_step_begins_at_the_bound(self) -> None:
+        """Once all commands have read 8 GiB of each large image after the first pass, a layout with a rating ends the search; without one a line
+        says that it goes on. Images that are not large have no bound."""
+        rated, unrated = (cast(Any, types.SimpleNamespace(score=score)) for score in (Score.CHECKED, Score.KNOWN))
+        for read, tested, is_large, ended, said in ((24, rated, True, True, "the search ends"), (23.9, rated, True, False, ""),
+                                                    (24, unrated, True, False, "the search continues"), (90, rated, False, False, "")):
+            search = self.search()
+            search.look()
+            search.tested.append(tested)
+            amount = amounts.Amount((1,)) if is_large else None
+            with mock.patch.object(meter, "read_of_images", lambda: int(read * 3 * (1 << 30))), \
+                    mock.patch.object(amounts, "first_pass", lambda *_: amount):
+                self.assertEqual([search.is_read(), search.is_read()], [ended, ended], (read, is_large))
+                scope: Any = None
+                if ended:
+                    self.assertTrue(search.attempt(scope, Shape("5", 3), (), cast(Any, None)))
+                    self.assertTrue(search.near_mirrors(cast(Any, types.SimpleNamespace(evidence=search)), 0))
+            lines = [line for line in self.report.lines if "of each image is read" in line]
+            self.assertEqual([said in line for line in lines], [True] if said else [], lines)
+
     def test_zeros_end_it(self) -> None:
         """Images of nothing but zeros are not searched; one that is too long to be read is."""
         for first, wanted in ((16 * MIB, True), (SECTOR, False)):
@@ -133,6 +170,16 @@ class Runs(InFolder):
                 search.look()
             self.assertEqual(sum(line.startswith(f"{search.room.base} has ") for line in self.report.lines), said)
             self.assertEqual(self.report.record.last("room").get("images", 3 * SIZE * SECTOR), 3 * SIZE * SECTOR)
+
+    def test_mounted_volumes_need_no_room(self) -> None:
+        """Where volumes are mounted only copies need room, and nothing else is said."""
+        search = self.search()
+        search.room.mounts = True
+        with mock.patch.object(Room, "free", lambda _: SECTOR):
+            search.look()
+        line, = (line for line in self.report.lines if line.startswith(f"{search.room.base} has "))
+        self.assertIn("A checker that needs a copy of a longer file system does not run", line)
+        self.assertNotIn("for volumes", line)
 
     def test_a_small_file_system_has_no_rating(self) -> None:
         few: dict[str, Any] = {"levels": ("5",), "members": (3,), "seconds": 1}

@@ -67,6 +67,11 @@ def read_of_images() -> int:
     return max(0, read_in_all() - HANDED_ON.count)
 
 
+def is_spent(images: int, first: int) -> bool:
+    """Return whether so many large images were read as far as all commands may read them, of which the first pass reads so many bytes of each."""
+    return read_of_images() >= images * (first + MAX_AFTER)
+
+
 def left_for(images: int, first: int | None) -> int:
     """Return how many bytes a command may read of so many images, of which the first pass reads so many bytes of each; None if these are not
     large, so that all commands together have no bound."""

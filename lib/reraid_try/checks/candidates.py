@@ -37,7 +37,8 @@ class Candidate:
     the marks was left out, and does not hold, `rivalled` how another candidate contradicts it that has more for itself. `rows` says in which rows
     parity holds, `old` which images in no slot belong to it and are old or damaged, `same` and `inside` which other candidates have its volume,
     `whole` is the candidate with the images that are left out of it for their bad rows. `unsettled` says which other set contradicts it with as much
-    for itself. Candidates whose volumes were compared byte by byte, and hold the same, have one number in `volume`."""
+    for itself. Candidates whose volumes were compared byte by byte, and hold the same, have one number in `volume`. `since` is after how many seconds
+    of the run a checker was content with it."""
 
     word: Word
     rank: int
@@ -58,6 +59,7 @@ class Candidate:
     whole: Optional["Candidate"] = None
     unsettled: str = ""
     volume: int | None = None
+    since: int | None = None
 
     @property
     def found(self) -> Verdict:

@@ -194,7 +194,8 @@ class Tests:
         """Says of a candidate that a checker is content with it, once."""
         if it.score >= Score.CHECKED and it.word.text not in self.told:
             self.told.add(it.word.text)
-            self.report.say("sound", f"  {it.word.text}: {it.found.text()}", set=it.word.text, said=it.found.text())
+            it.since = self.report.bar.seconds()
+            self.report.say("sound", f"  {it.word.text}: {it.found.text()}", set=it.word.text, said=it.found.text(), seconds=it.since)
 
     def side_by_side(self, work: Callable[[One], Other], found: Iterable[One], what: str, then: Callable[[Other], None] | None = None) -> list[Other]:
         """Does something for all candidates, so many at a time, and then something with each result in their order."""

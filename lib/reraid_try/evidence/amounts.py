@@ -3,7 +3,8 @@
 import dataclasses
 from collections.abc import Sequence
 
-from ..units import GIB, MIB, SECTOR
+from ..calls.meter import MAX_AFTER
+from ..units import ALL, GIB, MIB, SECTOR
 from . import extents, sampling
 from .images import Image
 
@@ -41,6 +42,12 @@ def first_pass(images: Sequence[Image], first: int) -> Amount | None:
     return Amount(tuple(SECTOR * extents.total(extents.held(image.name, 0, min(image.sectors, first // SECTOR))) for image in images))
 
 
+def bound(first: int) -> str:
+    """Return what is said before large images are read of where all steps end, of which the first pass reads so many bytes of each; nothing if it
+    reads all."""
+    return "" if first == ALL else f". After {(first + MAX_AFTER) / GIB:.3g} GiB of each image no step begins, if a layout has a rating"
+
+
 def lasting(seconds: float) -> str:
     """Return a time for people."""
     if seconds < 2 * MINUTE:
@@ -48,6 +55,7 @@ def lasting(seconds: float) -> str:
     return f"{seconds / MINUTE:.0f} min" if seconds < 2 * HOUR else f"{seconds / HOUR:.1f} h"
 
 
-def in_all(read: int, images: int) -> str:
-    """Return what is said at the end of how much was read."""
-    return f"all commands together read at most {read / GIB:.1f} GiB, {read / max(1, images) / GIB:.1f} GiB of each image on average"
+def in_all(read: int, images: int, rated: int | None = None) -> str:
+    """Return what is said at the end of how much was read, and after how many seconds the first layout was rated, if one was."""
+    since = "" if rated is None else f". The first rated layout was found after {lasting(rated)}"
+    return f"all commands together read at most {read / GIB:.1f} GiB, {read / max(1, images) / GIB:.1f} GiB of each image on average{since}"

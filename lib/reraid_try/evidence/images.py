@@ -152,13 +152,23 @@ def look_into(file: BinaryIO, name: str, called: str, number: int, first_bytes: 
     def read(place: int, count: int) -> bytes:
         file.seek(place)
         return file.read(count)
-    first = reading.first_data(file, min(length, first_bytes))
-    last = reading.last_data(file, max(0, length - first_bytes), length)
-    if last is None and first is not None:
-        last = reading.last_data(file, 0, min(length, first_bytes))
+    first, last = bounds(file, length, first_bytes)
     beside = map_beside(called)
     return Image(name, number, sectors, size - length, tables.read_table(read, sectors), first, last, None, maps.read_map(beside) if beside else None,
                  heads.find_heads(file, number, min(length, HEAD)))
+
+
+def bounds(file: BinaryIO, length: int, first_bytes: int) -> tuple[int | None, int | None]:
+    """Return the first and the last sector of an image that are not zeros. So many first and last bytes of a long one are looked at, and then what
+    lies between them: a disk of an array may hold all its data there."""
+    first = reading.first_data(file, min(length, first_bytes))
+    last = reading.last_data(file, max(0, length - first_bytes), length)
+    if length > 2 * first_bytes:
+        first = reading.first_behind(file, first_bytes, length - first_bytes) if first is None else first
+        last = reading.last_data(file, first_bytes, length - first_bytes) if last is None else last
+    if last is None and first is not None:
+        last = reading.last_data(file, 0, min(length, first_bytes))
+    return first, last
 
 
 def held(image: Image) -> int:

@@ -11,8 +11,9 @@ from ..units import MIB, SECTOR
 
 One = TypeVar("One")
 STEP = MIB
-# So many bytes are read from the end back until something is not zeros, and then so many single sectors.
-MAX_BACK, STEPS = 64 * MIB, 256
+# So many bytes are read from the end back until something is not zeros, and then so many single sectors; as many bytes from a place on, and then so
+# many single sectors.
+MAX_BACK, STEPS, STEPS_ON = 64 * MIB, 256, 1024
 
 
 def data_runs(file: BinaryIO, first: int, last: int) -> Iterator[tuple[int, int]]:
@@ -50,6 +51,35 @@ def first_data(file: BinaryIO, last: int) -> int | None:
         rest = block.lstrip(b"\0")
         if rest:
             return (place + len(block) - len(rest)) // SECTOR
+    return None
+
+
+def first_behind(file: BinaryIO, first: int, length: int) -> int | None:
+    """The first sector that is not zeros, from a byte on. Where many bytes behind it are zeros it is the first of single sectors that are looked at
+    in steps behind these."""
+    read = 0
+    for begin, end in data_runs(file, first, length):
+        for place in range(begin, end, STEP):
+            if read >= MAX_BACK:
+                return first_of_steps(file, place, length)
+            file.seek(place)
+            block = file.read(min(STEP, end - place))
+            rest = block.lstrip(b"\0")
+            read += len(block)
+            if rest:
+                return (place + len(block) - len(rest)) // SECTOR
+    return None
+
+
+def first_of_steps(file: BinaryIO, first: int, last: int) -> int | None:
+    """The first sector that is not zeros of some that lie evenly over what the file system holds between two bytes."""
+    runs = [(begin // SECTOR, end // SECTOR) for begin, end in data_runs(file, first, last)]
+    step = max(1, sum(end - begin for begin, end in runs) // STEPS_ON)
+    for begin, end in runs:
+        for sector in range(begin, end, step):
+            file.seek(sector * SECTOR)
+            if file.read(SECTOR).strip(b"\0"):
+                return sector
     return None
 
 

@@ -29,7 +29,7 @@ from ..options import LEVELS, Options
 from ..report import words
 from ..report.diagnosis import Diagnosis
 from ..report.report import Report
-from ..units import ALL, KIB, MIB, MAX_IMAGES, SECTOR, counted, size_said
+from ..units import ALL, GIB, KIB, MIB, MAX_IMAGES, SECTOR, counted, size_said
 from . import relaxations
 from .answers import Answer, Answers, Kind
 from .relaxations import Relaxation, RelaxationKind
@@ -72,6 +72,7 @@ class Search:
         self.reshapes: list[Reshape] = []
         self.said_fills: set[str] = set()
         self.said_room = False
+        self.said_spent: set[bool] = set()
         self.why = ""
         self.answer: Answer | None = None
         self.hopeless: Answer | None = None
@@ -97,10 +98,29 @@ class Search:
         self.say_amount()
 
     def say_amount(self) -> None:
-        """Says how much was read of large images by now."""
-        read = meter.read_of_images()
-        if read and amounts.first_pass(self.images, self.options.first):
-            self.report.say("read", amounts.in_all(read, len(self.images)), bytes=read)
+        """Says how much was read of large images by now, and when the first layout was found that has a rating still."""
+        read, rated = meter.read_of_images(), [it.since for it in self.tested if it.since is not None and it.score >= Score.CHECKED]
+        first = min(rated, default=None)
+        if read and self.is_large:
+            self.report.say("read", amounts.in_all(read, len(self.images), first), bytes=read, rated=first)
+
+    def is_read(self) -> bool:
+        """Large images were read as far as they may be, and a layout has a rating: no further step begins. A line says so once, or that the search
+        continues without a rating."""
+        most = self.options.first + meter.MAX_AFTER
+        if not meter.is_spent(len(self.images), self.options.first) or not self.is_large:
+            return False
+        ends = self.best() >= Score.CHECKED
+        if ends not in self.said_spent:
+            self.said_spent.add(ends)
+            then = "ends, since a layout has a rating" if ends else "continues, since no layout has a rating (Ctrl-C ends it)"
+            self.report.say("spent", f"  {most / GIB:.3g} GiB of each image is read on average: the search {then}", bytes=most, ends=ends)
+        return ends
+
+    @property
+    def is_large(self) -> bool:
+        """Return whether some image is large."""
+        return amounts.first_pass(self.images, self.options.first) is not None
 
     def say_reshapes(self) -> None:
         """Says once more where ties change for good, where nothing has a rating."""
@@ -236,7 +256,8 @@ class Search:
         self.report.total = total
         part = "all" if total == sum(image.sectors * SECTOR for image in self.images) else "the first part"
         amount = amounts.first_pass(self.images, self.options.first)
-        self.report.say("reads", f"reading {part} of the images: {total // MIB} MiB" + (amount.text() if amount else ""), bytes=total)
+        more = amount.text() + amounts.bound(self.options.first) if amount else ""
+        self.report.say("reads", f"reading {part} of the images: {total // MIB} MiB{more}", bytes=total)
         self.say_room()
 
     def say_room(self) -> None:
@@ -245,9 +266,12 @@ class Search:
         if self.room.free() < held and not self.said_room:
             self.said_room = True
             free = self.room.free()
-            self.report.say("room", f"{self.room.base} has {size_said(free)} for volumes, and the images hold {size_said(held)}. Of larger volumes "
-                            "only the beginning is checked, or nothing, and the table reports it (--room DIR names another folder)",
-                            folder=self.room.base, free=free, images=held)
+            said = (f"{self.room.base} has {size_said(free)} for volumes, and the images hold {size_said(held)}. Of larger volumes only the "
+                    "beginning is checked, or nothing, and the table reports it")
+            if self.room.mounts:
+                said = (f"{self.room.base} has {size_said(free)} free. A checker that needs a copy of a longer file system does not run, and the "
+                        "table reports it")
+            self.report.say("room", f"{said} (--room DIR names another folder)", folder=self.room.base, free=free, images=held)
 
     def look_for_fills(self) -> None:
         """The texts that stand in images in place of what could not be read, a line each that was not printed before; they count as unread."""
@@ -390,6 +414,8 @@ class Search:
                 tested_by: Request | None = None) -> bool:
         """One step; it says whether a candidate is clean and whole. `tested_by` is the request by which its sets are tested, where that is
         another."""
+        if self.is_read():
+            return True
         self.why_on()
         step = Step(shape, chosen, request)
         self.report.doing = f"{step.line()}: "
@@ -490,6 +516,8 @@ class Search:
     def mirrors(self, scope: Scope, asked: Copied) -> bool:
         """RAID 10 by its copies: the sets, and where these group the images the RAID 0 of one of each group; it says whether the search is at its
         end."""
+        if self.is_read():
+            return True
         if asked.members > MAX_IMAGES or (self.options.members and asked.members not in self.options.members):
             return False
         try:

@@ -126,9 +126,13 @@ class Bar:
         self.clear()
         self.ended.set()
 
+    def seconds(self) -> int:
+        """Return the seconds that the run takes until now."""
+        return int(time.monotonic() - self.began)
+
     def clock(self) -> str:
         """How long the run takes until now."""
-        seconds = int(time.monotonic() - self.began)
+        seconds = self.seconds()
         return f"{seconds // 60}:{seconds % 60:02}"
 
     def left(self, done: int, total: int) -> str:

@@ -161,7 +161,7 @@ def areas_one_lost(folder, cache):
 
 def areas_in_ntfs(folder, cache):
     """Two of five images have bad areas, and file records are wrongly numbered: the set without them is among the best, and the true one is listed.
-    That has no sign, since fewer files are whole in it."""
+    That has no rating, since fewer files are whole in it."""
     order, true = large(Array("6", 5, (), "ntfs"), cache, folder)
     small_areas(order[0], [(9000, 300), (100000, 500), (200000, 200)])
     small_areas(order[2], [(30000, 400), (150000, 300)])

@@ -20,7 +20,7 @@ NAMES = ("LISTEN_PID", "LISTEN_FDS", "LISTEN_FDNAMES")
 
 
 def handed(environment: dict[str, str], own: int) -> int:
-    """How many sockets are handed to the process of this number; 0 where they are not for it."""
+    """Return how many sockets are handed to the process of this number; 0 where they are not for it."""
     try:
         count = int(environment.get("LISTEN_FDS", ""))
         return max(0, count) if int(environment.get("LISTEN_PID", "")) == own else 0

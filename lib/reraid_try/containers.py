@@ -47,7 +47,7 @@ class Container:
 
     @property
     def name(self) -> str:
-        """The name of its first file, which stands for it."""
+        """Return the name of its first file, which stands for it."""
         return self.parts[0]
 
     def line(self) -> str:
@@ -55,17 +55,17 @@ class Container:
         return f"{self.name}: {self.kind}" + (f" of {len(self.parts)} files" if len(self.parts) > 1 else "")
 
     def shown(self) -> str:
-        """The name of the file that shows its disk, in the folder where it is opened."""
+        """Return the name of the file that shows its disk, in the folder where it is opened."""
         return "ewf1" if self.kind == EWF else "disk"
 
     def tools(self) -> tuple[str, ...]:
-        """The programs that open it and undo that."""
+        """Return the programs that open it and undo that."""
         opening = ("ewfmount",) if self.kind == EWF else ("nbdfuse", "nbdkit" if self.kind == SPLIT else "qemu-nbd")
         return (*opening, "fusermount3")
 
     def command(self, folder: str, name: Callable[[str], str] = os.path.abspath) -> list[str]:
-        """The command that opens it for reading in a folder, with its files as they are named there. That of E01 ends once it is open; the others go
-        on until the folder is unmounted."""
+        """Return the command that opens it for reading in a folder, with its files as they are named there. That of E01 ends once it is open; the
+        others go on until the folder is unmounted."""
         if self.kind == EWF:
             return ["ewfmount", name(self.name), folder]
         shown = ["nbdfuse", "-r", os.path.join(folder, self.shown())]
@@ -106,7 +106,7 @@ def read_at(name: str, first: int, count: int) -> bytes:
 
 
 def ends_of(name: str) -> tuple[bytes, bytes]:
-    """The first bytes of a file, and its last sector."""
+    """Return the first bytes of a file, and its last sector."""
     try:
         with open(name, "rb") as file:
             head = file.read(HEAD)
@@ -125,7 +125,7 @@ def is_vhd_footer(sector: bytes) -> bool:
 
 
 def kind_of(name: str, head: bytes, tail: bytes) -> str | None:
-    """The kind of a file by its bytes; of compressed ones by its name too. None where it may be raw."""
+    """Return the kind of a file by its bytes; of compressed ones by its name too. None where it may be raw."""
     for signature, kind in SIGNATURES:
         if head.startswith(signature):
             return kind
@@ -141,13 +141,13 @@ def kind_of(name: str, head: bytes, tail: bytes) -> str | None:
 
 
 def segment(head: bytes) -> int:
-    """The number of an EWF's file among those of its image, from 1."""
+    """Return the number of an EWF's file among those of its image, from 1."""
     number: int = struct.unpack_from("<H", head, 9)[0] if len(head) >= 11 else 0
     return number
 
 
 def segments(name: str, first: int = 1) -> tuple[str, ...]:
-    """The files of an EWF whose first one is named, in order, as libewf names them: E01 to E99, EAA to EZZ, FAA and so on."""
+    """Return the files of an EWF whose first one is named, in order, as libewf names them: E01 to E99, EAA to EZZ, FAA and so on."""
     base, ending = os.path.splitext(name)
     found, letters = [name], ending[1:]
     if not re.fullmatch(r"[A-Za-z]01", letters):
@@ -167,8 +167,8 @@ def segments(name: str, first: int = 1) -> tuple[str, ...]:
 
 
 def pieces(name: str) -> tuple[str, ...]:
-    """The files of a split raw image whose first one, .000 or .001, is named, in order up to the first that is not there; nothing where it is no such
-    name, or no second one is there."""
+    """Return the files of a split raw image whose first one, .000 or .001, is named, in order up to the first that is not there; nothing where it is
+    no such name, or no second one is there."""
     match = PART.fullmatch(name)
     if not match or int(match[2]) > 1:
         return ()
@@ -179,7 +179,7 @@ def pieces(name: str) -> tuple[str, ...]:
 
 
 def listed(folder: str) -> list[str]:
-    """The names in a folder."""
+    """Return the names in a folder."""
     try:
         return os.listdir(folder)
     except OSError as error:
@@ -187,7 +187,7 @@ def listed(folder: str) -> list[str]:
 
 
 def gap(parts: Sequence[str]) -> str | None:
-    """The first file that is missing of a split image where later ones are there."""
+    """Return the first file that is missing of a split image where later ones are there."""
     match = PART.fullmatch(parts[-1])
     if not match:
         return None
@@ -197,7 +197,7 @@ def gap(parts: Sequence[str]) -> str | None:
 
 
 def described(name: str, head: bytes) -> bytes:
-    """The text of a VMDK, in which its extents are named; nothing where it has none."""
+    """Return the text of a VMDK, in which its extents are named; nothing where it has none."""
     if head.startswith(b"KDMV") and len(head) >= 44:
         first, count = struct.unpack_from("<QQ", head, 28)
         return read_at(name, first * SECTOR, min(count, 64) * SECTOR) if 0 < first < ALL // SECTOR else b""
@@ -207,13 +207,13 @@ def described(name: str, head: bytes) -> bytes:
 
 
 def extents(name: str, head: bytes) -> set[str]:
-    """The other files that the text of a VMDK names."""
+    """Return the other files that the text of a VMDK names."""
     folder = os.path.dirname(name)
     return {os.path.join(folder, it.decode(errors="surrogateescape")) for it in EXTENT.findall(described(name, head))} - {name}
 
 
 def part_of(name: str, whole: dict[str, str], kind: str | None, head: bytes) -> str | None:
-    """The image of which a file is a later part; None where it is one by itself."""
+    """Return the image of which a file is a later part; None where it is one by itself."""
     if name in whole:
         return whole[name]
     if kind == EWF and segment(head) > 1:
@@ -222,7 +222,7 @@ def part_of(name: str, whole: dict[str, str], kind: str | None, head: bytes) -> 
 
 
 def known(names: Sequence[str], raw: bool = False) -> Known:
-    """What the files of these names are; all raw where that is said. Later parts of an image are no images by themselves."""
+    """Return what the files of these names are; all raw where that is said. Later parts of an image are no images by themselves."""
     if raw:
         return Known(tuple(names))
     ends = {name: ends_of(name) for name in names}
@@ -262,7 +262,7 @@ def are_disks(parts: Sequence[str], names: Sequence[str]) -> bool:
 
 
 def container_of(name: str, containers: dict[str, Container], lines: list[str]) -> Container | str:
-    """What an image is; a line is added where that is to be said."""
+    """Return what an image is; a line is added where that is to be said."""
     it = containers.get(name)
     said_kind = ENDINGS.get(os.path.splitext(name)[1].lower())
     if it is None:

@@ -15,10 +15,10 @@ class Stopped(Exception):
 
 
 def said(error: OSError) -> str:
-    """What the system says of a failure, without its number."""
+    """Return what the system says of a failure, without its number."""
     return error.strerror or str(error)
 
 
 def said_of(error: OSError) -> str:
-    """What the system says of a failure, with the file that it is about, where that is known."""
+    """Return what the system says of a failure, with the file that it is about, where that is known."""
     return f"{error.filename}: {said(error)}" if error.filename else said(error)

@@ -4,7 +4,7 @@ from collections.abc import Callable
 
 
 def halved(low: int, high: int, holds: Callable[[int], bool | None]) -> int | None:
-    """The least number above `low` that holds, where `high` does, by halving; None where that is not known of one."""
+    """Return the least number above `low` that holds, where `high` does, by halving; None where that is not known of one."""
     while low + 1 < high:
         middle = (low + high) // 2
         told = holds(middle)

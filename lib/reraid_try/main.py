@@ -146,14 +146,14 @@ def run_once(options: Options, words: Sequence[str], report: Report, log: Log | 
 
 
 def remembering(commands: Commands, memory: Memory | None, options: Options) -> Runner:
-    """Who runs the commands of a search: with a memory, what was answered before is not asked again."""
+    """Return who runs the commands of a search: with a memory, what was answered before is not asked again."""
     if memory is None:
         return commands
     return Remembering(commands, memory, {it.path: it.name for it in options.opened})
 
 
 def with_containers(options: Options, report: Report, opener: Opener) -> Options:
-    """The options with what is read of each image: of containers the files that show their disks."""
+    """Return the options with what is read of each image: of containers the files that show their disks."""
     found = containers.known(options.images, options.raw)
     for line in found.lines:
         report.say("container", line)
@@ -162,7 +162,7 @@ def with_containers(options: Options, report: Report, opener: Opener) -> Options
 
 
 def searched(search: Search, report: Report, casefile: Casefile) -> int:
-    """What a search comes to, and the status of the run."""
+    """Return what a search comes to, and the status of the run."""
     try:
         casefile.begin(search.options.images, search.options.opened)
         search.run()

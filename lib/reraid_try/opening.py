@@ -42,7 +42,7 @@ class Opened:
 
     @property
     def name(self) -> str:
-        """What it is called."""
+        """Return what it is called."""
         return self.container.name
 
 
@@ -54,7 +54,7 @@ class Opener:
         self.mounts: list[Mount] = []
 
     def all(self, images: Sequence[Container | str]) -> tuple[tuple[str, ...], tuple[Opened, ...]]:
-        """What is read of these images, with those that were opened."""
+        """Return what is read of these images, with those that were opened."""
         opened, names = [], []
         for number, it in enumerate(images):
             if isinstance(it, Container):
@@ -63,7 +63,7 @@ class Opener:
         return tuple(names), tuple(opened)
 
     def open(self, it: Container) -> str:
-        """The file that shows its disk."""
+        """Return the file that shows its disk."""
         missing = [tool for tool in it.tools() if not shutil.which(tool)]
         if missing:
             packages = " ".join(dict.fromkeys(PACKAGES[tool] for tool in missing))
@@ -119,12 +119,12 @@ class Opener:
 
 
 def typed(name: str) -> str:
-    """A name as a word that no command takes for an option or a protocol."""
+    """Return a name as a word that no command takes for an option or a protocol."""
     return f"./{name}" if name.startswith("-") or ":" in name.partition("/")[0] else name
 
 
 def by_hand(it: Container, number: int) -> tuple[tuple[str, ...], str]:
-    """The lines that open a container in a shell, and the image that is there then."""
+    """Return the lines that open a container in a shell, and the image that is there then."""
     folder = os.path.join(BY_HAND, str(number))
     line = shlex.join(it.command(folder, typed)).replace("'['", "[").replace("']'", "]")
     shown = os.path.join(folder, it.shown())

@@ -60,7 +60,7 @@ class Options:
 
     @property
     def question_seconds(self) -> int:
-        """How long a question may take."""
+        """Return how long a question may take."""
         return self.question or max(MIN_SECONDS, self.seconds // PART)
 
     def wants(self, level: str) -> bool:
@@ -69,7 +69,7 @@ class Options:
 
 
 def size(text: str) -> int:
-    """A number of bytes, with K, M, G or T behind it."""
+    """Return a number of bytes, with K, M, G or T behind it."""
     unit = UNITS.get(text[-1:].upper(), 1)
     digits = text[:-1] if unit > 1 else text
     if not digits.isdecimal():
@@ -99,7 +99,7 @@ def levels(text: str) -> tuple[str, ...]:
 
 
 def positive(text: str) -> int:
-    """A number above 0."""
+    """Return a number above 0."""
     value = int(text) if text.isdecimal() else 0
     if value < 1:
         raise argparse.ArgumentTypeError(f"{text}: give a whole number above 0")
@@ -107,7 +107,7 @@ def positive(text: str) -> int:
 
 
 def parser() -> argparse.ArgumentParser:
-    """The words."""
+    """Return the words."""
     it = argparse.ArgumentParser(prog="reraid-try", description=ABOUT, epilog=STATUSES)
     it.add_argument("images", nargs="*", metavar="IMAGE", help="an image of a disk; reraid-try uses IMAGE.map beside it as its ddrescue mapfile")
     it.add_argument("--version", action="version", version=f"reraid-try {host.version()}")
@@ -137,7 +137,7 @@ def parser() -> argparse.ArgumentParser:
 
 
 def read_words(words: Sequence[str]) -> Options:
-    """The options of the words; the run ends with status 2 where they are wrong."""
+    """Return the options of the words; the run ends with status 2 where they are wrong."""
     asking = parser()
     it = asking.parse_args(["--help"] if list(words) == ["help"] and not os.path.exists("help") else words)
     if bool(it.images) == it.clean:

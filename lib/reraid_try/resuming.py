@@ -43,7 +43,7 @@ def head_of(options: Options) -> Head:
 
 
 def begin(options: Options, words: Sequence[str], report: Report) -> Memory | None:
-    """The memory of a run with these options, and of those before it; None where none is asked for."""
+    """Return the memory of a run with these options, and of those before it; None where none is asked for."""
     if not options.resume:
         return None
     memory = Memory(options.resume, head_of(options), {"began": host.now(), "words": list(words)})

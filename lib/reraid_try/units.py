@@ -14,7 +14,7 @@ MAX_IMAGES = 24
 
 
 def counted(number: int, noun: str) -> str:
-    """A number with its noun: `1 mark`, `2 marks`."""
+    """Return a number with its noun: `1 mark`, `2 marks`."""
     return f"{number} {noun}" + ("" if number == 1 else "s")
 
 
@@ -35,7 +35,7 @@ def listed(numbers: Iterable[int]) -> str:
 
 
 def percent(part: int, whole: int) -> str:
-    """A part of something, in hundredths; what is not nothing is not said to be."""
+    """Return a part of something, in hundredths; what is not nothing is not said to be."""
     if part and 100 * part < whole:
         return "less than 1%"
     return f"{100 * part // max(1, whole)}%"

@@ -16,19 +16,19 @@ MIRROR = f"LAYOUT:CHUNK:OFFSET:SLOTS, such as near2:128:2048:0,1,2,-, with one o
 
 
 def near(word: str, names: Sequence[str]) -> str:
-    """The name that is meant, mostly: ours for another one, or the one that looks most like it; none where there is no such name."""
+    """Return the name that is meant, mostly: ours for another one, or the one that looks most like it; none where there is no such name."""
     ours = OTHERS.get(word.lower(), "")
     close = difflib.get_close_matches(word.lower(), names, 1, 0.75)
     return ours if ours in names else close[0] if close else ""
 
 
 def meant(word: str, names: Sequence[str]) -> str:
-    """A question whether that name is meant."""
+    """Return a question whether that name is meant."""
     return f" (did you mean {near(word, names)}?)" if near(word, names) else ""
 
 
 def number(name: str, text: str) -> list[str]:
-    """What is wrong with a number; nothing where it is one."""
+    """Return what is wrong with a number; nothing where it is one."""
     if text.isascii() and text.isdigit():
         return [f"{text}: write it without leading zeros"] if text != str(int(text)) else []
     count = sectors(text)
@@ -37,14 +37,14 @@ def number(name: str, text: str) -> list[str]:
 
 
 def counted(name: str, item: str) -> list[str]:
-    """What is wrong with an element of a list of numbers; those of members and of rows are no sectors."""
+    """Return what is wrong with an element of a list of numbers; those of members and of rows are no sectors."""
     if name == "delays" and not (item.isascii() and item.isdigit()):
         return [f"{item or 'nothing'}: give each of delays in rows, from 1 to 1024"]
     return number(f"each of {name}" if name != "members" else name, item)
 
 
 def rotation(level: str, text: str) -> list[str]:
-    """What is wrong with the pattern of a set word and the delay behind it."""
+    """Return what is wrong with the pattern of a set word and the delay behind it."""
     pattern, star, delay = text.partition("*")
     if pattern not in BY_LEVEL[level]:
         return [f"{pattern}{meant(pattern, BY_LEVEL[level])}: the pattern at level {level} is one of {','.join(BY_LEVEL[level])}"]
@@ -54,13 +54,13 @@ def rotation(level: str, text: str) -> list[str]:
 
 
 def rising(name: str, items: list[str], order: Sequence[str] | None) -> list[str]:
-    """What is wrong with the order of a list whose elements are right."""
+    """Return what is wrong with the order of a list whose elements are right."""
     ranked = sorted(set(items), key=list(order).index) if order else sorted(set(items), key=int)
     return [f"{name}: a list is in ascending order, each item once: {name}={','.join(ranked)}"] if ranked != items else []
 
 
 def listed(name: str, value: str) -> list[str]:
-    """What is wrong with a list of names or of numbers."""
+    """Return what is wrong with a list of names or of numbers."""
     items = value.split(",")
     if name in NAMES:
         names = NAMES[name]
@@ -85,7 +85,7 @@ def is_mirror(value: str) -> bool:
 
 
 def set_word(value: str, mirrors: bool) -> list[str]:
-    """What is wrong with the first part of a set word that is."""
+    """Return what is wrong with the first part of a set word that is."""
     parts = value.split(":")
     if is_mirror(value):
         chunk, offset, slots = ([*parts[1:], "", "", ""])[:3]
@@ -109,13 +109,13 @@ def set_word(value: str, mirrors: bool) -> list[str]:
 
 
 def places(value: str) -> list[str]:
-    """What is wrong with the offsets of relations, one for each image."""
+    """Return what is wrong with the offsets of relations, one for each image."""
     said = [line for item in value.split("+") for line in number("each of offsets", item)]
     return [f"{said[0]}; give one offset for each image, in their order, separated by +: 2048+0+2048"] if said else []
 
 
 def operand(command: str, name: str, value: str) -> list[str]:
-    """What is wrong with an operand of a command, as far as that can be said."""
+    """Return what is wrong with an operand of a command, as far as that can be said."""
     names = OPERANDS[command]
     if name not in names:
         ours = OTHER_OPERANDS.get(name.lstrip("-"), "")
@@ -131,7 +131,7 @@ def operand(command: str, name: str, value: str) -> list[str]:
 
 
 def expected(command: str, words: Sequence[str], place: int) -> list[str]:
-    """What is said of the refused word, which is at this place of the words, from 0; past the last one something is missing."""
+    """Return what is said of the refused word, which is at this place of the words, from 0; past the last one something is missing."""
     if command not in OPERANDS:
         return [f"{command}{meant(command, list(OPERANDS))}: the commands are {' '.join(name for name in OPERANDS if name != 'nbd')}"]
     if place == 0 and len(words) > 1 and words[0] in ("--help", "-h", "help", "--version"):

@@ -38,7 +38,7 @@ UNITS = {"k": 2, "kb": 2, "kib": 2, "m": 2048, "mb": 2048, "mib": 2048, "g": 209
 
 
 def sectors(text: str) -> int | None:
-    """The sectors of a size with a unit, as 64K has 128; None where it is none."""
+    """Return the sectors of a size with a unit, as 64K has 128; None where it is none."""
     match = re.fullmatch(r"(\d{1,12})(\w+)", text)
     unit = UNITS.get(match[2].lower()) if match else None
     return int(match[1]) * unit if match and unit else None

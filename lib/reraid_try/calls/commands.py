@@ -38,7 +38,7 @@ class Answer:
 
     @property
     def out(self) -> str:
-        """The output as text."""
+        """Return the output as text."""
         return self.data.decode(errors="replace")
 
     @property
@@ -48,7 +48,7 @@ class Answer:
 
 
 def refused(answer: Answer, command: str) -> Refused:
-    """What is raised where the program refused a command: its line, and what helps where an image cannot be read."""
+    """Return what is raised where the program refused a command: its line, and what helps where an image cannot be read."""
     said_by = answer.error.strip() or f"reraid {command} ended with status {answer.status}"
     return Refused(f"{said_by} (copy it with ddrescue: its mapfile lists what is unreadable)" if answer.status == READ_FAULT else said_by)
 
@@ -70,7 +70,7 @@ class Runner(Protocol):
 
 
 def quoted(words: Words) -> str:
-    """The words as a shell takes them."""
+    """Return the words as a shell takes them."""
     return shlex.join(str(word) for word in words)
 
 

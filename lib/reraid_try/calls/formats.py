@@ -24,7 +24,7 @@ class Ranked:
     text: str
 
     def line(self) -> str:
-        """Its line on a page."""
+        """Return its line on a page."""
         return f"{self.rank} {self.text}\n"
 
 
@@ -40,14 +40,14 @@ class Page:
 
     @property
     def estimate(self) -> int:
-        """How many sets pass, by the part of the plan that the page had room for."""
+        """Return how many sets pass, by the part of the plan that the page had room for."""
         if self.following is None or self.total is None:
             return len(self.sets)
         return len(self.sets) * self.total // max(1, self.following)
 
 
 def read_page(answer: Answer) -> Page:
-    """A page that `list` or `mirrors` put; without a last line that is not ended, as where its time was up."""
+    """Return a page that `list` or `mirrors` put; without a last line that is not ended, as where its time was up."""
     found, following, total = [], None, None
     for line in answer.out[:answer.out.rfind("\n") + 1].splitlines():
         if match := PASSED.fullmatch(line):
@@ -58,7 +58,7 @@ def read_page(answer: Answer) -> Page:
 
 
 def read_total(answer: Answer) -> int | None:
-    """How many sets a plan has, by the answer to a page that begins at the greatest rank; None where that was refused."""
+    """Return how many sets a plan has, by the answer to a page that begins at the greatest rank; None where that was refused."""
     if answer.good:
         return read_page(answer).total
     match = PAST.fullmatch(answer.error.strip()) if answer.status == PAST_TOTAL else None
@@ -80,11 +80,11 @@ class Held:
         return self.origin is not None and self.misfits > self.fits
 
     def short(self) -> str:
-        """Its fits, and its misfits after a hyphen, where there are some."""
+        """Return its fits, and its misfits after a hyphen, where there are some."""
         return f"{self.kind} none" if self.origin is None else f"{self.kind} {self.fits}" + (f"-{self.misfits}" if self.misfits else "")
 
     def text(self) -> str:
-        """What `check` puts of it."""
+        """Return what `check` puts of it."""
         return f"{self.kind} none" if self.origin is None else f"{self.kind} origin {self.origin} fits {self.fits} misfits {self.misfits}"
 
 
@@ -99,12 +99,12 @@ class Checked:
 
     @property
     def fits(self) -> int:
-        """How many marks fit."""
+        """Return how many marks fit."""
         return sum(group.fits for group in self.groups)
 
 
 def read_check(answer: Answer) -> Checked | None:
-    """What `check` put; None where it was refused, or its time was up."""
+    """Return what `check` put; None where it was refused, or its time was up."""
     rows, groups = None, []
     for line in answer.out.splitlines():
         if match := UNSOUND.fullmatch(line):
@@ -115,7 +115,7 @@ def read_check(answer: Answer) -> Checked | None:
 
 
 def read_classes(answer: Answer) -> list[int]:
-    """The numbers of the classes of sets, in their order, by what `classes` put."""
+    """Return the numbers of the classes of sets, in their order, by what `classes` put."""
     return [int(line.split()[0]) for line in answer.out.splitlines() if not line.startswith("classes ")]
 
 
@@ -125,6 +125,6 @@ def read_lost_runs(answer: Answer) -> list[tuple[int, int]]:
 
 
 def read_lost(answer: Answer) -> tuple[int, int] | None:
-    """How many sectors of a volume are lost, and how many it has, by what `salvage form=lost` put; None where it was refused."""
+    """Return how many sectors of a volume are lost, and how many it has, by what `salvage form=lost` put; None where it was refused."""
     match = GOOD.fullmatch(answer.out.splitlines()[-1]) if answer.good and answer.out else None
     return (int(match[2]) - int(match[1]), int(match[2])) if match else None

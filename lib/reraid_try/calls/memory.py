@@ -45,7 +45,7 @@ class Seen:
     sample: str
 
     def unlike(self, other: "Seen") -> str:
-        """What is not the same of another one by the same name; nothing where all is."""
+        """Return what is not the same of another one by the same name; nothing where all is."""
         for (name, count, changed), (other_name, other_count, other_changed) in zip(self.files, other.files):
             if name != other_name:
                 return f"{self.name} has the file {name}, not {other_name}"
@@ -69,7 +69,7 @@ class Head:
     images: tuple[Seen, ...]
 
     def unlike(self, other: "Head") -> str:
-        """The first thing that is not the same of another one; nothing where all is."""
+        """Return the first thing that is not the same of another one; nothing where all is."""
         names, other_names = ([it.name for it in head.images] for head in (self, other))
         if names != other_names:
             return f"the images are {' '.join(names)}, not {' '.join(other_names)}"
@@ -82,7 +82,7 @@ class Head:
 
 
 def read_head(line: bytes) -> Head:
-    """The head of a first line."""
+    """Return the head of a first line."""
     it = json.loads(line)
     if it["reraid-try"] != FORMAT:
         raise ValueError
@@ -91,7 +91,7 @@ def read_head(line: bytes) -> Head:
 
 
 def digest(text: str) -> str:
-    """The SHA-256 of a text."""
+    """Return the SHA-256 of a text."""
     return hashlib.sha256(text.encode(errors="surrogateescape")).hexdigest()
 
 
@@ -104,7 +104,7 @@ class Asked:
 
     @property
     def key(self) -> str:
-        """What it is found by."""
+        """Return what it is found by."""
         return json.dumps([self.words, self.text])
 
 
@@ -184,7 +184,7 @@ class Memory:
         return place, len(data)
 
     def at(self, place: tuple[int, int]) -> Fields:
-        """The line at a place."""
+        """Return the line at a place."""
         try:
             found: Fields = json.loads(os.pread(self.file, place[1], place[0]))
         except (OSError, ValueError) as error:
@@ -197,7 +197,8 @@ class Memory:
             self.taken[which] += 1
 
     def answer(self, asked: Asked, seconds: float | None) -> Answer | None:
-        """The answer to a question that has so many seconds; None where it is to be asked, as where it ran out of its time and has more now."""
+        """Return the answer to a question that has so many seconds; None where it is to be asked, as where it ran out of its time and has more
+        now."""
         place = self.answers.get(asked.key)
         if place is None:
             return None
@@ -216,7 +217,7 @@ class Memory:
         self.answers[asked.key] = self.put(it)
 
     def look(self, key: Fields) -> Fields | None:
-        """What was found in a volume; None where that is not known."""
+        """Return what was found in a volume; None where that is not known."""
         place = self.looks.get(json.dumps(key))
         if place is None:
             return None
@@ -241,14 +242,14 @@ class Remembering:
         self.commands, self.memory, self.names = commands, memory, names
 
     def asked(self, words: Words, text: str | None) -> Asked | None:
-        """What is asked by a command; None where its answer is not kept."""
+        """Return what is asked by a command; None where its answer is not kept."""
         told = [str(word) for word in words]
         if told[0] != "reraid" or not (told[1] in ASKED or all(it in told for it in LOSSES)):
             return None
         return Asked(tuple(self.names.get(it, it) for it in told), digest(text) if text else "")
 
     def run(self, words: Words, text: str | None = None, seconds: float | None = None) -> Answer:
-        """The answer to one command, the one that is kept where there is one."""
+        """Return the answer to one command, the one that is kept where there is one."""
         asked = self.asked(words, text)
         if asked is None:
             return self.commands.run(words, text, seconds)
@@ -273,7 +274,7 @@ class Remembering:
 
 
 def direct(commands: Runner) -> Runner:
-    """Who runs commands whose answers are kept for no other run, as those about files that are there in this run alone."""
+    """Return who runs commands whose answers are kept for no other run, as those about files that are there in this run alone."""
     return commands.commands if isinstance(commands, Remembering) else commands
 
 

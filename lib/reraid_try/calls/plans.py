@@ -27,22 +27,22 @@ class Mark:
 
     @property
     def numbers(self) -> list[int]:
-        """The numbers of the rule."""
+        """Return the numbers of the rule."""
         return [int(number) for number in self.rule.split(":")[1:]]
 
     @property
     def nearest(self) -> int:
-        """The least distance that the rule allows, in sectors from where its file system begins."""
+        """Return the least distance that the rule allows, in sectors from where its file system begins."""
         numbers = self.numbers
         return numbers[2] if self.rule.startswith("every") else min(numbers)
 
     @property
     def step(self) -> int | None:
-        """The sectors from one allocation group to the next; None where the rule has no step."""
+        """Return the sectors from one allocation group to the next; None where the rule has no step."""
         return self.numbers[0] if self.rule.startswith("every") else None
 
     def text(self) -> str:
-        """Its line in a plan."""
+        """Return its line in a plan."""
         return f"mark {self.kind} {self.image} {self.sector} {self.rule}\n"
 
 
@@ -54,7 +54,7 @@ class Bounds:
     least: int
 
     def text(self) -> str:
-        """Its line in a plan."""
+        """Return its line in a plan."""
         return f"bounds {self.misfits} {self.least}\n"
 
 
@@ -69,15 +69,15 @@ class Group:
     bounds: Bounds | None = None
 
     def text(self) -> str:
-        """Its lines in a plan."""
+        """Return its lines in a plan."""
         return f"group {self.kind}\n" + (self.bounds.text() if self.bounds else "") + "".join(mark.text() for mark in self.marks)
 
     def images(self) -> set[int]:
-        """The images that show it."""
+        """Return the images that show it."""
         return {mark.image for mark in self.marks}
 
     def name(self) -> str:
-        """What it is called in a report."""
+        """Return what it is called in a report."""
         return f"landmark group {self.place} ({self.kind}, {counted(len(self.marks), 'landmark')})"
 
 
@@ -93,11 +93,12 @@ class Plan:
     groups: tuple[Group, ...]
 
     def numbers(self, name: str) -> list[int]:
-        """The numbers of a line."""
+        """Return the numbers of a line."""
         return [int(number) for number in self.values[name].split(",")]
 
     def text(self) -> str:
-        """The plan as `list` and `check` read it: of version 3 only where parity may stay for several rows, or a group has bounds of its own."""
+        """Return the plan as `list` and `check` read it: of version 3 only where parity may stay for several rows, or a group has bounds of its
+        own."""
         delayed = self.values.get(DELAYS, NO_DELAY) != NO_DELAY
         bounded = delayed or any(group.bounds for group in self.groups)
         head = [f"reraid-plan {BOUNDED}", f"mode {MODES[self.version]}"] if bounded else [f"reraid-plan {self.version}"]
@@ -106,29 +107,29 @@ class Plan:
         return "\n".join(lines) + "\n" + "".join(group.text() for group in self.groups) + "done\n"
 
     def having(self, **values: str | int) -> "Plan":
-        """The plan with other values."""
+        """Return the plan with other values."""
         return dataclasses.replace(self, values={**self.values, **{name: str(value) for name, value in values.items()}})
 
     def without(self, places: Collection[int]) -> "Plan":
-        """The plan without the groups of these places."""
+        """Return the plan without the groups of these places."""
         return dataclasses.replace(self, groups=tuple(group for group in self.groups if group.place not in places))
 
     def bounded(self, place: int, bounds: Bounds | None) -> "Plan":
-        """The plan in which the group of this place has bounds of its own, or those of the plan again."""
+        """Return the plan in which the group of this place has bounds of its own, or those of the plan again."""
         changed = (dataclasses.replace(group, bounds=bounds) if group.place == place else group for group in self.groups)
         return dataclasses.replace(self, groups=tuple(changed))
 
     def bare(self) -> "Plan":
-        """The plan without its groups."""
+        """Return the plan without its groups."""
         return dataclasses.replace(self, groups=())
 
     def marks(self) -> list[Mark]:
-        """All landmarks."""
+        """Return all landmarks."""
         return [mark for group in self.groups for mark in group.marks]
 
 
 def read_plan(text: str) -> Plan:
-    """The plan of a text that `reraid survey` printed."""
+    """Return the plan of a text that `reraid survey` printed."""
     try:
         return read_lines([line.split() for line in text.splitlines()])
     except (ValueError, IndexError, KeyError) as error:
@@ -136,7 +137,7 @@ def read_plan(text: str) -> Plan:
 
 
 def read_lines(lines: list[list[str]]) -> Plan:
-    """The plan of these lines, each as its words."""
+    """Return the plan of these lines, each as its words."""
     values = {words[0]: words[1] for words in lines if words[0] in FIELDS}
     lengths = tuple(int(words[1]) for words in lines if words[0] == "length")
     end, = (int(words[1]) for words in lines if words[0] == "end")
@@ -156,7 +157,7 @@ def read_lines(lines: list[list[str]]) -> Plan:
 
 
 def read_version(lines: list[list[str]]) -> int:
-    """Whether each image has an offset of its own, as a version: by the first line, or in version 3 by the second."""
+    """Return whether each image has an offset of its own, as a version: by the first line, or in version 3 by the second."""
     version = int(lines[0][1])
     if version != BOUNDED:
         return version

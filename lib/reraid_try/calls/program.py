@@ -47,7 +47,7 @@ class Copied:
     offsets: tuple[int, ...] = ()
 
     def line(self) -> str:
-        """What is said of its layouts."""
+        """Return what is said of its layouts."""
         return "copies " + ",".join(it.text for it in self.layouts)
 
 
@@ -58,7 +58,7 @@ class Program:
         self.commands, self.names, self.seconds, self.jobs = commands, tuple(names), seconds, jobs
 
     def total(self, text: str) -> int:
-        """How many sets a plan has."""
+        """Return how many sets a plan has."""
         answer = self.commands.run(["reraid", "list", f"from={LAST}", "--", *self.names], text)
         total = formats.read_total(answer)
         if total is None:
@@ -74,7 +74,7 @@ class Program:
         return formats.read_page(answer)
 
     def listing(self, plan: Plan) -> Listing:
-        """The sets of a plan that pass, by spans side by side where there are many."""
+        """Return the sets of a plan that pass, by spans side by side where there are many."""
         text = plan.text()
         total = self.total(text)
         if total == 0:
@@ -100,21 +100,21 @@ class Program:
         return Listing(tuple(found), total, False, f"more than {len(found)} pass" if len(found) >= MAX_LINES else self.late_note())
 
     def late_note(self) -> str:
-        """What is said where its time was up."""
+        """Return what is said where its time was up."""
         return f"timed out after {self.seconds} s, before all were tested"
 
     def check(self, word: str, plan: Plan) -> Checked | None:
-        """What `check` says of a set; None where it was refused, or its time was up."""
+        """Return what `check` says of a set; None where it was refused, or its time was up."""
         return formats.read_check(self.commands.run(["reraid", "check", f"set={word}", "--", *self.names], plan.text(), self.seconds))
 
     def classes(self, found: Sequence[Word], end: int) -> list[int]:
-        """The numbers of the classes of these sets; each by itself where that was refused."""
+        """Return the numbers of the classes of these sets; each by itself where that was refused."""
         text = "".join(f"{number} {word.text}\n" for number, word in enumerate(found))
         answer = self.commands.run(["reraid", "classes", f"images={len(self.names)}", f"end={end}", "--"], text)
         return formats.read_classes(answer) if answer.good else list(range(len(found)))
 
     def mirror_words(self, asked: Copied, bad_rows: int, offsets: Sequence[int], end: int, window: int) -> list[str]:
-        """The command that lists the sets of a RAID 10. Where copies do not tell the chunk, one is enough."""
+        """Return the command that lists the sets of a RAID 10. Where copies do not tell the chunk, one is enough."""
         words = ["reraid", "mirrors"]
         words += [] if asked.layouts == (NEAR_2,) else ["layouts=" + ",".join(it.text for it in asked.layouts)]
         words += [f"members={asked.members}", f"offsets={listed(offsets)}", f"end={end}"]
@@ -125,7 +125,7 @@ class Program:
         return [*words, f"window={window}", f"size={MAX_LINES}", "--", *self.names]
 
     def mirrors(self, words: list[str]) -> Page:
-        """The sets of a RAID 10; what of them was put, where its time was up."""
+        """Return the sets of a RAID 10; what of them was put, where its time was up."""
         answer = self.commands.run(words, seconds=self.seconds)
         if answer.status:
             raise refused(answer, "mirrors")
@@ -136,7 +136,7 @@ class Program:
         return self.commands.run(["reraid", "salvage", f"set={word}", "form=lost", f"end={end}", "--", *self.names], maps, self.seconds)
 
     def lost(self, word: str, end: int, maps: str) -> tuple[int, int] | None:
-        """How many sectors of a volume are lost by these maps, of how many; None where that was refused, or took too long."""
+        """Return how many sectors of a volume are lost by these maps, of how many; None where that was refused, or took too long."""
         return formats.read_lost(self.ask_lost(word, end, maps))
 
     def lost_runs(self, word: str, end: int, maps: str) -> list[tuple[int, int]]:

@@ -24,7 +24,7 @@ class Copying:
         return f"{self.kind}{self.copies}"
 
     def together(self, members: int) -> int:
-        """How many slots in a row hold the same, of so many members; 1 where none does."""
+        """Return how many slots in a row hold the same, of so many members; 1 where none does."""
         return math.gcd(self.copies, members) if self.kind == NEAR else 1
 
     def is_striped(self, members: int) -> bool:
@@ -36,7 +36,7 @@ NEAR_2 = Copying(NEAR, 2)
 
 
 def read_copying(text: str) -> Copying | None:
-    """A layout of RAID 10; None where it is another word."""
+    """Return a layout of RAID 10; None where it is another word."""
     match = COPYING.fullmatch(text)
     return Copying(match[1], int(match[2])) if match else None
 
@@ -76,12 +76,12 @@ class Word:
 
     @functools.cached_property
     def copying(self) -> Copying | None:
-        """The layout of a RAID 10; None of others."""
+        """Return the layout of a RAID 10; None of others."""
         return read_copying(self.level)
 
     @property
     def rotation(self) -> str:
-        """Its pattern, whatever rows parity stays for."""
+        """Return its pattern, whatever rows parity stays for."""
         return self.pattern.partition(STAYS)[0]
 
     @property
@@ -96,38 +96,38 @@ class Word:
 
     @property
     def together(self) -> int:
-        """How many slots in a row hold the same."""
+        """Return how many slots in a row hold the same."""
         return self.copying.together(len(self.slots)) if self.copying else 1
 
     @property
     def needs_end(self) -> bool:
-        """How far apart its copies lie comes from where the members end."""
+        """Return whether the distance of its copies depends on where the members end."""
         return self.copying is not None and self.copying.kind == FAR
 
     @property
     def lost(self) -> int:
-        """How many slots are empty."""
+        """Return how many slots are empty."""
         return self.slots.count(None)
 
     @property
     def spare(self) -> int:
-        """How many disks more it may lose and parity still has their bytes."""
+        """Return how many disks more it may lose and parity still has their bytes."""
         return 0 if self.is_mirrored else LEVELS[self.level].parity - self.lost
 
     @property
     def data(self) -> float:
-        """How many data chunks a row has; those of RAID 10 by its copies, where it may be no whole number."""
+        """Return how many data chunks a row has; those of RAID 10 by its copies, where it may be no whole number."""
         members = len(self.slots)
         return members / self.copying.copies if self.copying else members - LEVELS[self.level].parity
 
     @property
     def row(self) -> int:
-        """The sectors of a row of data chunks."""
+        """Return the sectors of a row of data chunks."""
         return int(self.data * self.chunk)
 
     @property
     def offset(self) -> int:
-        """The sector at which the data of the members begin; the greatest, where each has one of its own."""
+        """Return the sector at which the data of the members begin; the greatest, where each has one of its own."""
         return max(self.offsets)
 
     @property
@@ -137,16 +137,16 @@ class Word:
 
     @property
     def simplicity(self) -> tuple[int, str, int]:
-        """What sets of one volume are sorted by: the fewest members first, then the lower level, then parity that moves on sooner."""
+        """Return what sets of one volume are sorted by: the fewest members first, then the lower level, then parity that moves on sooner."""
         return len(self.slots), self.level, self.delay
 
     @property
     def images(self) -> tuple[int, ...]:
-        """The images that it names, by slot."""
+        """Return the images that it names, by slot."""
         return tuple(slot for slot in self.slots if slot is not None)
 
     def sectors(self, end: int) -> int:
-        """The sectors of its volume, of members that end there."""
+        """Return the sectors of its volume, of members that end there."""
         rows, members = max(0, end - self.offset) // self.chunk, len(self.slots)
         if not self.copying:
             return int(rows * self.data) * self.chunk
@@ -154,22 +154,22 @@ class Word:
         return (rows * members // copies if self.copying.kind == NEAR else rows // copies * members) * self.chunk
 
     def having(self, slots: tuple[int | None, ...]) -> "Word":
-        """The set with other slots."""
+        """Return the set with other slots."""
         return read_word(":".join([self.text.rsplit(":", 1)[0], slots_text(slots)]))
 
     def without(self, images: frozenset[int]) -> "Word":
-        """The set without these images, whose slots are empty then."""
+        """Return the set without these images, whose slots are empty then."""
         return self.having(tuple(None if slot in images else slot for slot in self.slots))
 
     def over(self, images: Sequence[int]) -> "Word":
-        """The same set where these images alone are named, in this order: it has all of its own among them."""
+        """Return the same set where these images alone are named, in this order: it has all of its own among them."""
         numbers = {image: place for place, image in enumerate(images)}
         offsets = tuple(self.offsets[image] for image in images) if self.is_each else self.offsets
         slots = tuple(None if slot is None else numbers[slot] for slot in self.slots)
         return read_word(":".join([*self.text.split(":")[:-2], "+".join(map(str, offsets)), slots_text(slots)]))
 
     def folded(self) -> "Word":
-        """The same set with one offset, where the list of its offsets is one number repeated."""
+        """Return the same set with one offset, where the list of its offsets is one number repeated."""
         if len(self.offsets) < 2 or len(set(self.offsets)) > 1:
             return self
         parts = self.text.split(":")
@@ -177,12 +177,12 @@ class Word:
 
 
 def staying(rotation: str, delay: int) -> str:
-    """A pattern whose parity stays for so many rows."""
+    """Return a pattern whose parity stays for so many rows."""
     return f"{rotation}{STAYS}{delay}" if delay > 1 else rotation
 
 
 def without_slot(word: Word, slot: int, level: str, pattern: str) -> Word | None:
-    """The set of a lower level without one slot, which is empty; None where the slot is not, or that level has more members."""
+    """Return the set of a lower level without one slot, which is empty; None where the slot is not, or that level has more members."""
     slots = word.slots[:slot] + word.slots[slot:][1:]
     if word.slots[slot] is not None or len(slots) < LEVELS[level].least or slots.count(None) > LEVELS[level].parity:
         return None
@@ -190,8 +190,8 @@ def without_slot(word: Word, slot: int, level: str, pattern: str) -> Word | None
 
 
 def lower(word: Word) -> Word | None:
-    """The set of the next lower level that has the same volume whatever the images hold: a RAID 5 in place of a RAID 6 whose Q stood on one disk
-    that is missing, a RAID 0 in place of a RAID 5 whose parity did; None for most."""
+    """Return the set of the next lower level that has the same volume whatever the images hold: a RAID 5 in place of a RAID 6 whose Q stood on one
+    disk that is missing, a RAID 0 in place of a RAID 5 whose parity did; None for most."""
     if word.level == "6" and word.rotation.endswith(LAST_Q):
         return without_slot(word, len(word.slots) - 1, "5", staying(word.rotation.removesuffix(LAST_Q), word.delay))
     if word.level == "6" and word.pattern in FIXED_Q:
@@ -202,8 +202,8 @@ def lower(word: Word) -> Word | None:
 
 
 def simplest(word: Word) -> Word:
-    """The set of the lowest level, with the fewest members, that has the same volume whatever the images hold; of two orders of Q that weigh the same
-    disks alike the first."""
+    """Return the set of the lowest level, with the fewest members, that has the same volume whatever the images hold; of two orders of Q that weigh
+    the same disks alike the first."""
     while (found := lower(word)) is not None:
         word = found
     if word.level == "6" and word.rotation in SYMMETRIC and word.order == BY_DATA:
@@ -217,7 +217,7 @@ def slots_text(slots: tuple[int | None, ...]) -> str:
 
 
 def read_word(text: str) -> Word:
-    """A set word of a listing, taken apart."""
+    """Return a set word of a listing, taken apart."""
     parts = text.split(":")
     slots = tuple(None if slot == "-" else int(slot) for slot in parts[-1].split(","))
     pattern, order = ("", "") if read_copying(parts[0]) else (parts[1], parts[2])
@@ -225,10 +225,10 @@ def read_word(text: str) -> Word:
 
 
 def made(level: str, pattern: str, order: str, chunk: int, offsets: tuple[int, ...], slots: tuple[int | None, ...]) -> Word:
-    """A set word of its parts."""
+    """Return a set word of its parts."""
     return read_word(":".join([level, pattern, order, str(chunk), "+".join(map(str, offsets)), slots_text(slots)]))
 
 
 def mirrored(copying: Copying, chunk: int, offset: int, slots: tuple[int | None, ...]) -> Word:
-    """The set word of a RAID 10."""
+    """Return the set word of a RAID 10."""
     return read_word(f"{copying.text}:{chunk}:{offset}:{slots_text(slots)}")

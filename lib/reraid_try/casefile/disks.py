@@ -21,7 +21,7 @@ MIN = 12
 
 
 def scale(length: int) -> list[str]:
-    """The texts below lanes of so many sectors."""
+    """Return the texts below lanes of so many sectors."""
     return ["0", *(size(length * SECTOR * part // PARTS) for part in range(1, PARTS + 1))]
 
 
@@ -46,7 +46,7 @@ class Disks:
         return section("The images", self.legend(), *(self.disk(it) for it in self.images), self.in_words())
 
     def legend(self) -> str:
-        """What the colors and the heights of the lanes are."""
+        """Return what the colors and the heights of the lanes are."""
         items = []
         if self.strips:
             how = min(it["looks"] for it in self.strips.values())
@@ -63,7 +63,7 @@ class Disks:
         return legend(items)
 
     def disk(self, image: Event) -> str:
-        """An image: its name, what is known of it, and its lanes."""
+        """Return an image: its name, what is known of it, and its lanes."""
         number = image["number"]
         lanes = [self.data(number), self.unread_lane(image), *(self.marks(kind, number) for kind in self.kinds), self.tied(number)]
         drawn = "".join(drawing.lane(lane, image["sectors"], self.longest) for lane in lanes if lane)
@@ -73,7 +73,7 @@ class Disks:
         return f'<div class="disk"><h3>image {number}: {text(image["name"])}</h3>{about}{drawn}</div>'
 
     def known(self, image: Event) -> Iterable[str]:
-        """What is known of an image."""
+        """Return what is known of an image."""
         yield f"{image['sectors']:,} sectors, {size(image['sectors'] * SECTOR)}"
         if image.get("rest"):
             yield f"and {image['rest']} bytes after the last whole sector"
@@ -94,7 +94,7 @@ class Disks:
         return "".join(soft(text(line)) for line in told)
 
     def hash_of(self, number: int) -> str:
-        """The digest of an image, or why there is none."""
+        """Return the digest of an image, or why there is none."""
         found = self.hashes.get(number)
         if not found:
             return soft("SHA-256: not computed (--hash computes it)")
@@ -110,23 +110,23 @@ class Disks:
         return Lane("data", f"data in {sum(bool(part) for part in filled)} of {len(filled)} parts", bars)
 
     def unread(self, image: Event) -> list[list[int]]:
-        """The runs of sectors of an image that its map calls unread."""
+        """Return the runs of sectors of an image that its map calls unread."""
         found: list[list[int]] = self.strips.get(image["number"], {}).get("unread", [])
         return found
 
     def inferred(self, image: Event) -> bool:
-        """What counts as unread of an image is not said by a map: it has texts in its place."""
+        """Return whether texts, and not a map, tell what counts as unread of an image."""
         return bool(self.strips.get(image["number"], {}).get("inferred"))
 
     def unread_lane(self, image: Event) -> Lane | None:
-        """What could not be read."""
+        """Return what could not be read."""
         runs = self.unread(image)
         bars = tuple(Bar(first, first + count, "unread") for first, count in runs)
         why = BY_TEXT if self.inferred(image) else BY_MAP
         return Lane("unread", f"unread: {sum(count for _, count in runs)} sectors, {why}", bars) if runs else None
 
     def marks(self, kind: str, number: int) -> Lane:
-        """The landmarks of a kind on an image."""
+        """Return the landmarks of a kind on an image."""
         places = tuple(sector for it in self.record.of("marks") if it["kind"] == kind for image, sector in it["marks"] if image == number)
         return Lane(kind, f"landmarks of {kind}: {len(places)}", ticks=places, kind=kind)
 
@@ -150,7 +150,7 @@ class Disks:
         return Lane("parity", f"parity matches in {sums[0]} rows, data without a match in {sums[1]}", tuple(bars))
 
     def in_words(self) -> str:
-        """What the relations of all rows have in common."""
+        """Return what the relations of all rows have in common."""
         told = self.relations
         if not told:
             return ""

@@ -42,12 +42,12 @@ def joined(bars: Iterable[Bar]) -> list[Bar]:
 
 
 def number(value: float) -> str:
-    """A number in a path, as short as it is exact enough."""
+    """Return a number in a path, as short as it is exact enough."""
     return f"{value:.1f}".rstrip("0").rstrip(".")
 
 
 def rectangles(bars: Sequence[Bar], scale: float) -> str:
-    """The bars, those of a class as one path."""
+    """Return the bars, those of a class as one path."""
     paths: dict[str, list[str]] = {}
     for bar in joined(bars):
         left, width = bar.first * scale, max((bar.last - bar.first) * scale, 1.0)
@@ -57,7 +57,7 @@ def rectangles(bars: Sequence[Bar], scale: float) -> str:
 
 
 def lane(it: Lane, length: int, extent: int) -> str:
-    """A lane of what is so long, on a scale that ends at this extent."""
+    """Return a lane of what is so long, on a scale that ends at this extent."""
     scale = WIDTH / max(1, extent)
     ticks = "".join(f"M{number(place * scale)} 0V{HEIGHT}" for place in dict.fromkeys(it.ticks))
     drawn = f'<path class="ground" d="M0 0h{number(length * scale)}v{HEIGHT}h-{number(length * scale)}z"/>' + rectangles(it.bars, scale)
@@ -67,5 +67,5 @@ def lane(it: Lane, length: int, extent: int) -> str:
 
 
 def axis(told: Sequence[str]) -> str:
-    """The scale below lanes: texts at even distances from its start to its end."""
+    """Return the scale below lanes: texts at even distances from its start to its end."""
     return '<div class="lane axis"><span></span><div>' + "".join(f"<i>{html.escape(text)}</i>" for text in told) + "</div></div>"

@@ -29,7 +29,7 @@ UNKNOWN = "not searched at all: RAID 10 with near and far copies at once or with
 
 
 def length_of(name: str) -> int:
-    """The whole sectors of an image."""
+    """Return the whole sectors of an image."""
     try:
         with open(name, "rb") as file:
             return file.seek(0, os.SEEK_END) // SECTOR
@@ -38,7 +38,7 @@ def length_of(name: str) -> int:
 
 
 def unread(it: Map | None, sectors: int) -> list[list[int]]:
-    """The runs of sectors that a map calls unread, each as its first sector and how many they are."""
+    """Return the runs of sectors that a map calls unread, each as its first sector and how many they are."""
     return [[gap.start, len(gap)] for gap in it.gaps(sectors)] if it else []
 
 
@@ -153,14 +153,15 @@ class Casefile:
 
 
 def fields(found: Relations) -> dict[str, Any]:
-    """What is told of relations: the rows with their zero images and the sets of images that are tied there, and what is common to all rows."""
+    """Return what is told of relations: the rows with their zero images and the sets of images that are tied there, and what is common to all
+    rows."""
     rows = [{"first": it.first, "last": it.last, "zero": sorted(it.zero), "tied": [sorted(them) for them in it.tied()]} for it in found.rows]
     together = [{"images": sorted(it.images), "rows": it.rows} for it in found.together]
     return {"step": found.step, "rows": rows, "together": together, "alone": sorted(found.alone), "free": found.free, "total": found.total}
 
 
 def looked_at(image: Image, cell: int, small: bool) -> Strip | None:
-    """The strip of an image, by all of it where images are small, and else by a few places; None where it cannot be read."""
+    """Return the strip of an image, by all of it where images are small, and else by a few places; None where it cannot be read."""
     try:
         if small:
             answer = strips.whole(image.name, image.number, image.sectors, cell)
@@ -171,7 +172,7 @@ def looked_at(image: Image, cell: int, small: bool) -> Strip | None:
 
 
 def left_out(search: Search, ended: bool) -> Iterator[str]:
-    """What was not tried, a line each."""
+    """Yield what was not tried, a line each."""
     options = search.options
     longest = max(image.sectors for image in search.images) * SECTOR
     if options.first < min(longest, ALL):
@@ -195,7 +196,7 @@ def left_out(search: Search, ended: bool) -> Iterator[str]:
 
 
 def shapes_left(search: Search) -> Iterator[str]:
-    """The shapes without a search step."""
+    """Yield the shapes without a search step."""
     window = max((scope.evidence.window for scope in search.scopes), default=0)
     if window:
         yield f"parity was tested over at most {counted(window, 'sector')} of each disk in a step"

@@ -23,7 +23,7 @@ HERE = pathlib.Path(__file__).resolve().parents[3]
 
 
 def line_of(*places: str) -> str:
-    """The line of the first of these files that is there, below the folder where all is; nothing where none is."""
+    """Return the line of the first of these files that is there, below the folder where all is; nothing where none is."""
     for place in (HERE / place for place in places):
         if place.is_file():
             return place.read_text(encoding="ascii").strip()
@@ -31,7 +31,7 @@ def line_of(*places: str) -> str:
 
 
 def version() -> str:
-    """The version of these scripts."""
+    """Return the version of these scripts."""
     return line_of("libexec/reraid/VERSION", "VERSION")
 
 
@@ -41,7 +41,7 @@ def kit() -> str:
 
 
 def said_by(words: Sequence[str]) -> str:
-    """What a command says, at once on both of its outputs; nothing where it cannot be run or refuses."""
+    """Return what a command says, at once on both of its outputs; nothing where it cannot be run or refuses."""
     try:
         done = subprocess.run(words, stdin=subprocess.DEVNULL, stdout=subprocess.PIPE, stderr=subprocess.STDOUT, text=True, errors="replace",
                               timeout=SECONDS, check=False)
@@ -51,7 +51,7 @@ def said_by(words: Sequence[str]) -> str:
 
 
 def tool_version(name: str) -> str:
-    """The version of a tool, as it says it; nothing where it is not there."""
+    """Return the version of a tool, as it says it; nothing where it is not there."""
     if not shutil.which(name):
         return ""
     lines = [line.strip() for line in said_by([name, TOOLS[name]]).splitlines()]
@@ -59,7 +59,7 @@ def tool_version(name: str) -> str:
 
 
 def program_file(name: str) -> str:
-    """The file of a program that is run for a name: of the wrapper reraid-nbd the program behind it; nothing where there is none."""
+    """Return the file of a program that is run for a name: of the wrapper reraid-nbd the program behind it; nothing where there is none."""
     found = shutil.which(name)
     if name == "reraid-nbd":
         places = (HERE / "libexec/reraid/reraid-nbd", HERE / "crates/reraid_nbd/out/reraid_nbd")
@@ -68,7 +68,7 @@ def program_file(name: str) -> str:
 
 
 def digest(name: str) -> str:
-    """The SHA-256 of a file; nothing where it cannot be read."""
+    """Return the SHA-256 of a file; nothing where it cannot be read."""
     found = hashlib.sha256()
     try:
         with open(name, "rb") as file:
@@ -80,7 +80,7 @@ def digest(name: str) -> str:
 
 
 def now() -> str:
-    """The time, with its zone."""
+    """Return the time, with its zone."""
     return datetime.datetime.now().astimezone().isoformat(timespec="seconds")
 
 
@@ -97,7 +97,7 @@ def file_fields(name: str) -> dict[str, Any]:
 
 
 def fields(words: Sequence[str]) -> dict[str, Any]:
-    """What is told of a run with these words, as it begins."""
+    """Return what is told of a run with these words, as it begins."""
     programs = {name: program_file(name) for name in ("reraid", "reraid-nbd")}
     told = said_by(["reraid", "--version"]).strip()
     own = program_file("reraid") in (str(HERE / "bin/reraid"), str(HERE / "crates/reraid/out/reraid"))

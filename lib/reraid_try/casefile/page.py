@@ -49,7 +49,7 @@ CANDIDATES = (("candidate", True), ("rating", False), ("layout", False), ("relax
 
 
 def rating(candidate: Event) -> str:
-    """The rating of a candidate; nothing where it has none."""
+    """Return the rating of a candidate; nothing where it has none."""
     told = "+" * max(0, int(candidate.get("score", 0)) - 1)
     return f'<span class="rating">{told}</span>' if told else ""
 
@@ -69,14 +69,14 @@ class Page:
         self.record, self.run, self.found = record, record.last("run"), list(record.of("candidate"))
 
     def whole(self) -> str:
-        """All of it."""
+        """Return all of it."""
         parts = [self.head(), self.best(), self.terms(), self.lost_files(), Disks(self.record).made(), self.said(), self.steps(), self.not_tried(),
                  self.candidates(), self.nearest(), self.made_with()]
         title = f"reraid-try, {self.run['began']}" if self.run else "reraid-try"
         return HEAD.format(title=text(title), style=STYLE) + "\n".join(filter(None, parts)) + "\n</body>\n</html>\n"
 
     def head(self) -> str:
-        """What it is, with which words and when."""
+        """Return what it is, with which words and when."""
         run, done = self.run, self.record.last("finished")
         ended = f"{done['ended']}, after {done['seconds']} s" if done else "still running when this page was made"
         ended += "; it was interrupted" if self.record.last("interrupted") else ""
@@ -86,7 +86,7 @@ class Page:
         return f"<h1>Images of an array: what was found</h1>\n{soft(text(ABOUT))}\n{names}"
 
     def best(self) -> str:
-        """The best in words, with what to type."""
+        """Return the best in words, with what to type."""
         made = []
         for it in self.record.of("words"):
             if "set" not in it:
@@ -116,26 +116,26 @@ class Page:
         return section("Files that touch lost sectors", *made) if told else ""
 
     def answer(self) -> str:
-        """What the images are if they are no array, with what to type; nothing if they may be one."""
+        """Return what the images are if they are no array, with what to type; nothing if they may be one."""
         found = self.record.last("answer")
         lines = text("\n".join(found.get("commands", [])))
         typed = soft("To mount it read-only, as root:") + f"<pre>{lines}</pre>" if lines else ""
         return f"<p><b>{text(found['said'])}.</b></p>{typed}" if found else ""
 
     def said(self) -> str:
-        """What was taken from the images before anything was tried."""
+        """Return what was taken from the images before anything was tried."""
         hints = bullets(dict.fromkeys(it["text"].strip() for it in self.record.of(*SAID)))
         return section("Evidence from the images", hints) if hints else ""
 
     def steps(self) -> str:
-        """What was tried: the reasons, what was relaxed, and what came of it."""
+        """Return what was tried: the reasons, what was relaxed, and what came of it."""
         rows = [(str(it["number"]), text(it["shape"]), text(it.get("reason", "")), text(" and ".join(it["loosened"]) or "nothing"),
                  f"{it['listed']:,}" + ("" if it["total"] is None else f" of {it['total']:,}"), text(self.outcome(it)))
                 for it in self.record.of("trial")]
         return section("What was tried", table(STEPS, rows)) if rows else ""
 
     def outcome(self, step: Event) -> str:
-        """What came of a step: its note, and which candidates are of it."""
+        """Return what came of a step: its note, and which candidates are of it."""
         classes = [int(it["class"]) for it in self.found if it.get("trial") == step["number"]]
         told = [step["note"]] if step.get("note") else []
         told += ["its layouts were deferred"] if step["number"] in self.put_off() else []
@@ -143,7 +143,7 @@ class Page:
         return "; ".join(told)
 
     def put_off(self) -> set[int]:
-        """The steps whose sets were put off, which is said right behind each."""
+        """Return the steps whose sets were put off, which is said right behind each."""
         found, number = set(), 0
         for it in self.record.of("trial", "put off"):
             if it["event"] == "trial":
@@ -153,12 +153,12 @@ class Page:
         return found
 
     def not_tried(self) -> str:
-        """What was not tried, or not to its end, and why."""
+        """Return what was not tried, or not to its end, and why."""
         told = dict.fromkeys(it["text"].strip() for it in self.record.of(*LEFT))
         return section("What was not tried, or not to its end", bullets(told)) if told else ""
 
     def candidates(self) -> str:
-        """All candidates, and of the best where parity holds."""
+        """Return all candidates, and of the best where parity holds."""
         rest = bullets(it["text"] for it in self.record.of("rest"))
         if not self.found:
             why = "no layout passed in any step" if self.record.last("trial") else "there was no search step"
@@ -169,11 +169,11 @@ class Page:
         return section("Candidates", about, table(CANDIDATES, rows), rest, *(self.parity(it) for it in self.record.of("parity")))
 
     def fits(self, it: Event) -> str:
-        """The unsound rows and the fits of a candidate."""
+        """Return the unsound rows and the fits of a candidate."""
         return ", ".join([*([f"{it['unsound']} rows inconsistent"] if it.get("unsound") else []), *it.get("fits", [])]) or "-"
 
     def volume(self, it: Event) -> str:
-        """What was found in the volume of a candidate."""
+        """Return what was found in the volume of a candidate."""
         files = [f"{it['files_whole']} of {it['files']} files intact"] if it.get("files") else []
         related = [f"the same volume as candidate {it['same']}"] if it.get("same") is not None else []
         related += [f"candidate {it['inside'][0]} without its first {it['inside'][1]} stripes"] if it.get("inside") else []
@@ -193,18 +193,18 @@ class Page:
         return (f'<div class="disk"><h3>{text(title)}</h3>{soft(text(told))}{shown}{drawing.lane(lane, end, end)}{drawing.axis(scale(end))}</div>')
 
     def region(self, it: Event) -> list[Bar]:
-        """The bars of a region: its unsound rows above, the others below."""
+        """Return the bars of a region: its unsound rows above, the others below."""
         first, last = it["first"], it["first"] + it["rows"]
         bad = max(MIN_UNSOUND, HEIGHT * it["unsound"] // it["tested"]) if it["unsound"] else 0
         return ([Bar(first, last, "sound", HEIGHT - bad)] if bad < HEIGHT else []) + ([Bar(first, last, "unsound", bad, HEIGHT - bad)] if bad else [])
 
     def nearest(self) -> str:
-        """The nearest sets, where none was good."""
+        """Return the nearest sets, where none was good."""
         told = bullets(it["text"].strip() for it in self.record.of("diagnosis", "near"))
         return section("The nearest layouts", told) if told else ""
 
     def made_with(self) -> str:
-        """The versions of all that had a part in it."""
+        """Return the versions of all that had a part in it."""
         run = self.run
         programs: Sequence[tuple[str, str]] = [(it["name"], f"{code(it['file'])}<br>SHA-256 {code(it['sha256'])}") for it in run.get("programs", [])]
         tools = [(name, text(told)) for name, told in run.get("tools", {}).items()]
@@ -216,5 +216,5 @@ class Page:
 
 
 def page(record: Record) -> str:
-    """The page of what is recorded."""
+    """Return the page of what is recorded."""
     return Page(record).whole()

@@ -11,7 +11,7 @@ BOX = 'viewBox="0 0 22 14" preserveAspectRatio="none" aria-hidden="true"'
 
 
 def text(it: object) -> str:
-    """A text in HTML."""
+    """Return a text in HTML."""
     return html.escape(str(it))
 
 
@@ -40,7 +40,7 @@ def runs(numbers: Iterable[int]) -> str:
 
 
 def soft(told: str) -> str:
-    """A paragraph beside what matters; it is HTML already."""
+    """Return a paragraph beside what matters; it is HTML already."""
     return f'<p class="soft">{told}</p>'
 
 
@@ -51,7 +51,7 @@ def bullets(rows: Iterable[object]) -> str:
 
 
 def section(title: str, *parts: str) -> str:
-    """A part of the page, with its title."""
+    """Return a part of the page, with its title."""
     return "\n".join([f"<h2>{text(title)}</h2>", *filter(None, parts)])
 
 
@@ -61,13 +61,13 @@ def listed(pairs: Iterable[tuple[str, str]]) -> str:
 
 
 def cell(name: str, made: str, is_number: bool) -> str:
-    """A cell of a table, with the name of its column for narrow pages."""
+    """Return a cell of a table, with the name of its column for narrow pages."""
     kinds = " ".join((["n"] if is_number else []) + ([] if made else ["empty"]))
     return f'<td data-name="{text(name)}"' + (f' class="{kinds}"' if kinds else "") + f"><div>{made}</div></td>"
 
 
 def table(heads: Sequence[tuple[str, bool]], rows: Sequence[Sequence[str]]) -> str:
-    """A table of rows that are HTML; of each column its head, and whether it has numbers. A column without anything is left out."""
+    """Return a table of rows that are HTML; of each column its head, and whether it has numbers. A column without anything is left out."""
     used = [k for k in range(len(heads)) if any(row[k] for row in rows)]
     head = "".join(f'<th{" class=n" if heads[k][1] else ""}>{text(heads[k][0])}</th>' for k in used)
     made = "".join("<tr>" + "".join(cell(heads[k][0], row[k], heads[k][1]) for k in used) + "</tr>" for row in rows)
@@ -75,10 +75,10 @@ def table(heads: Sequence[tuple[str, bool]], rows: Sequence[Sequence[str]]) -> s
 
 
 def box(kind: str, shape: str) -> str:
-    """A box of a legend: a shape of a class, over the ground."""
+    """Return a box of a legend: a shape of a class, over the ground."""
     return f'<svg {BOX}><path class="ground" d="M0 0h22v14h-22z"/><path class="{kind}" d="{shape}"/></svg>'
 
 
 def legend(items: Sequence[tuple[str, str]]) -> str:
-    """A legend of boxes with what they are."""
+    """Return a legend of boxes with what they are."""
     return '<ul class="legend">' + "".join(f"<li>{drawn}<span>{text(told)}</span></li>" for drawn, told in items) + "</ul>"

@@ -18,17 +18,17 @@ class Record:
         self.events.append({"event": event, "text": text, **fields})
 
     def of(self, *kinds: str) -> Iterator[Event]:
-        """The events of these kinds, in order."""
+        """Yield the events of these kinds, in order."""
         return (it for it in self.events if it["event"] in kinds)
 
     def last(self, kind: str) -> Event:
-        """The last event of a kind; an empty one where there is none."""
+        """Return the last event of a kind; an empty one where there is none."""
         found: Event = {}
         for it in self.of(kind):
             found = it
         return found
 
     def images(self) -> list[Event]:
-        """The images, each as it was said last, by their numbers."""
+        """Return the images, each as it was said last, by their numbers."""
         found = {it["number"]: it for it in self.of("image") if "number" in it}
         return [found[number] for number in sorted(found)]

@@ -31,19 +31,19 @@ def turn(word: Word) -> int:
 
 
 def cut(word: Word, end: int) -> list[tuple[int, int]]:
-    """The parts of a set's members up to an end: their first sectors and how many each has; each begins where a turn does."""
+    """Return the parts of a set's members up to an end: their first sectors and how many each has; each begins where a turn does."""
     length = max(0, end - word.offset) // word.chunk * word.chunk
     wide = max(1, -(-length // (PARTS * turn(word)))) * turn(word)
     return [(first, min(wide, length - first)) for first in range(0, length, wide)]
 
 
 def moved(word: Word, by: int) -> Word:
-    """The set whose data begin so many sectors later."""
+    """Return the set whose data begin so many sectors later."""
     return made(word.level, word.pattern, word.order, word.chunk, tuple(offset + by for offset in word.offsets), word.slots)
 
 
 def regions(it: Candidate, jobs: int) -> list[Region]:
-    """The parts of a candidate, of which parity tells something; none of others."""
+    """Return the parts of a candidate, of which parity tells something; none of others."""
     request = it.step.request
     if it.listed is None or request is None or it.word.is_mirrored or it.listed.spare < 1:
         return []
@@ -62,16 +62,16 @@ def regions(it: Candidate, jobs: int) -> list[Region]:
 
 
 def rows_of_each(parts: int) -> int:
-    """How many rows of each of so many parts are tested at most."""
+    """Return how many rows of each of so many parts are tested at most."""
     return PARTS * MAX_ROWS // max(1, parts)
 
 
 def windowed(plan: Plan, rows: int) -> Plan:
-    """The plan by which so many rows are tested."""
+    """Return the plan by which so many rows are tested."""
     return plan.having(window=rows)
 
 
 def told(found: Sequence[Region]) -> str:
-    """How the parts were tested."""
+    """Return how the parts were tested."""
     rows = max((it.tested for it in found), default=0)
     return f"At most the first {rows:,} rows of each part were tested." if any(it.tested < it.rows for it in found) else "All rows were tested."

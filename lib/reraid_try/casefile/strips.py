@@ -29,12 +29,12 @@ class Strip:
 
 
 def cell_of(sectors: Sequence[int]) -> int:
-    """How many sectors a cell has, for images of these lengths: all have one scale."""
+    """Return how many sectors a cell has, for images of these lengths: all have one scale."""
     return max(1, -(-max(sectors, default=0) // CELLS))
 
 
 def percent(filled: int, looked: int) -> int | None:
-    """A part in hundredths, of which what is not nothing is not 0; None of nothing."""
+    """Return a part in hundredths, of which what is not nothing is not 0; None of nothing."""
     return None if not looked else max(100 * filled // looked, 1 if filled else 0)
 
 
@@ -57,12 +57,12 @@ class Pages:
                 self.filled[cell] += not empty and part != zeros[:len(part)]
 
     def strip(self, image: int, looks: int) -> Strip:
-        """The strip of what came by."""
+        """Return the strip of what came by."""
         return Strip(image, self.cell // SECTOR, tuple(percent(some, looked) for some, looked in zip(self.filled, self.looked)), looks)
 
 
 def sampled(name: str, image: int, sectors: int, cell: int) -> Strip:
-    """The strip of an image by a few places of each cell, spread evenly."""
+    """Return the strip of an image by a few places of each cell, spread evenly."""
     pages = Pages(sectors, cell)
     with open(name, "rb") as file:
         for number in range(pages.count):
@@ -83,8 +83,8 @@ def read_into(pages: Pages, file: BinaryIO, place: int, count: int) -> None:
 
 
 def whole(name: str, image: int, sectors: int, cell: int, told: Callable[[int], bool] = lambda count: True) -> tuple[Strip, str] | None:
-    """The strip of an image by all of it, and its SHA-256 with the bytes behind its last whole sector. `told` is told how many bytes were read, and
-    says whether to go on; None where it does not."""
+    """Return the strip of an image by all of it, and its SHA-256 with the bytes behind its last whole sector. `told` is told how many bytes were
+    read, and says whether to go on; None where it does not."""
     pages, digest, place = Pages(sectors, cell), hashlib.sha256(), 0
     try:
         with open(name, "rb") as file:
@@ -111,7 +111,7 @@ class Hashed:
 
 
 def size_of(name: str) -> int:
-    """The bytes of an image."""
+    """Return the bytes of an image."""
     with open(name, "rb") as file:
         return file.seek(0, os.SEEK_END)
 

@@ -39,13 +39,13 @@ class Diagnosis:
         self.until = time.monotonic() + TIMES * self.seconds
 
     def sets(self, plan: Plan, most: int) -> list[str]:
-        """The first sets of a plan that pass; none after the diagnosis's time."""
+        """Return the first sets of a plan that pass; none after the diagnosis's time."""
         if time.monotonic() > self.until:
             return []
         return [it.text for it in self.scope.program.page(plan.text(), most=most).sets]
 
     def least(self, plan: Plan, below: int) -> int | None:
-        """The fewest misfits, below this number, with which a plan lists a set; None where there is none."""
+        """Return the fewest misfits, below this number, with which a plan lists a set; None where there is none."""
         if below < 1 or not self.sets(plan.having(misfits=below - 1), 1):
             return None
         return halved(-1, below - 1, lambda misfits: bool(self.sets(plan.having(misfits=misfits), 1)))
@@ -68,7 +68,7 @@ class Diagnosis:
             return [near for near, told in zip(found, pool.map(self.rows.ask, found)) if told]
 
     def shapes(self) -> list[tuple[Shape, Request]]:
-        """The shapes of which parity tells something, with what is asked for."""
+        """Return the shapes of which parity tells something, with what is asked for."""
         return [(shape, self.scope.asking.request(shape)) for shape in self.scope.shapes.tiers().all if shape.parity][:MAX_SHAPES]
 
     def by_rows(self, shapes: Sequence[tuple[Shape, Request]]) -> list[Near]:
@@ -101,7 +101,7 @@ class Diagnosis:
         return sorted(self.asked(list(found.values())), key=lambda it: it.by_marks)
 
     def of_group(self, whole: Plan, group: Group) -> list[Near]:
-        """The sets that parity allows of which a group holds, with the fewest misfits."""
+        """Return the sets that parity allows of which a group holds, with the fewest misfits."""
         alone = dataclasses.replace(whole, groups=(group,))
         misfits = self.least(alone, len(group.marks))
         if misfits is None:
@@ -131,7 +131,7 @@ class Diagnosis:
             self.lines(marks[:SHOWN])
 
     def none_near(self, was_late: bool) -> str:
-        """What is said where no set is near."""
+        """Return what is said where no set is near."""
         if not self.shapes():
             return "none, since parity rules out no layout at the levels and numbers of missing disks that were searched"
         if was_late:

@@ -131,12 +131,12 @@ class Bar:
         return int(time.monotonic() - self.began)
 
     def clock(self) -> str:
-        """How long the run takes until now."""
+        """Return how long the run takes until now."""
         seconds = self.seconds()
         return f"{seconds // 60}:{seconds % 60:02}"
 
     def left(self, done: int, total: int) -> str:
-        """How long the rest of a step may take, by what is done of it."""
+        """Return how long the rest of a step may take, by what is done of it."""
         seconds = time.monotonic() - self.since
         return f", about {duration(seconds * (total - done) / done)} left" if 0 < done < total and seconds >= LONG else ""
 
@@ -214,7 +214,7 @@ def to_nowhere(stream: TextIO) -> None:
 
 
 def duration(seconds: float) -> str:
-    """A time, as it is said of what is left."""
+    """Return a time, as it is said of what is left."""
     whole = int(seconds)
     if whole < 100:
         return f"{whole} s"

@@ -34,7 +34,7 @@ def lines(number: int, it: Candidate) -> list[str]:
 
 
 def fields(number: int, it: Candidate) -> dict[str, Any]:
-    """What programs are told of a candidate."""
+    """Return what programs are told of a candidate."""
     found = it.found
     inside = [it.inside.number, it.inside.rows] if it.inside else None
     return {"class": number, "set": it.word.text, "rank": it.rank, "loosened": it.step.relaxed, "unsound": it.unsound,
@@ -44,7 +44,7 @@ def fields(number: int, it: Candidate) -> dict[str, Any]:
 
 
 def shown(as_json: bool, order: Sequence[Candidate]) -> tuple[list[Numbered], list[str]]:
-    """The candidates that are printed, with their numbers, and why others are not."""
+    """Return the candidates that are printed, with their numbers, and why others are not."""
     told = list(enumerate(order))
     if as_json:
         return told, []
@@ -58,7 +58,7 @@ def shown(as_json: bool, order: Sequence[Candidate]) -> tuple[list[Numbered], li
 
 
 def soundness(pair: Numbered) -> tuple[int, int, int]:
-    """What candidates with a fault are sorted by: the longest whole file, how many are whole, and the order of all."""
+    """Return what candidates with a fault are sorted by: the longest whole file, how many are whole, and the order of all."""
     number, it = pair
     return -it.found.files.longest, -it.found.files.whole, number
 

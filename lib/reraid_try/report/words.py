@@ -26,7 +26,7 @@ NUMBERS = {1: "one", 2: "two", 3: "three", 4: "four"}
 
 
 def layout(word: Word) -> str:
-    """The level, the disks and the order of a set."""
+    """Return the level, the disks and the order of a set."""
     if word.copying:
         return f"RAID 10 ({word.copying.kind}={word.copying.copies}) of {len(word.slots)} disks"
     name = PATTERNS.get(word.rotation.removesuffix(LAST_Q), word.rotation)
@@ -45,13 +45,13 @@ def begins(word: Word, names: Sequence[str]) -> str:
 
 
 def short(names: Sequence[str]) -> list[str]:
-    """The names without their folders, where they are unlike then, as a shell takes them."""
+    """Return the names without their folders, where they are unlike then, as a shell takes them."""
     last = [os.path.basename(name) for name in names]
     return [shlex.quote(name) for name in (last if len(set(last)) == len(names) else names)]
 
 
 def slots(word: Word, names: Sequence[str]) -> str:
-    """The image of each slot; of copies that fill slots side by side with an equals sign between them."""
+    """Return the image of each slot; of copies that fill slots side by side with an equals sign between them."""
     told = ["(missing)" if slot is None else names[slot] for slot in word.slots]
     if word.together > 1:
         groups = ("=".join(told[first:first + word.together]) for first in range(0, len(told), word.together))
@@ -60,7 +60,7 @@ def slots(word: Word, names: Sequence[str]) -> str:
 
 
 def missing(word: Word) -> str:
-    """The slots that are empty; of slots that hold the same which of them that is cannot be told."""
+    """Return the slots that are empty; of slots that hold the same which of them that is cannot be told."""
     empty = [place for place, slot in enumerate(word.slots) if slot is None]
     if not empty and word.level == "0":
         return "missing: none, or only copies (a RAID 10 with one copy left of each disk is such a RAID 0)"
@@ -94,7 +94,7 @@ def in_words(word: Word, names: Sequence[str], whole: Word | None = None) -> lis
 
 
 def twins(word: Word, images: Sequence[Image]) -> list[str]:
-    """The images of a set that hold the same as another one, but for the copies of a RAID 10."""
+    """Return the images of a set that hold the same as another one, but for the copies of a RAID 10."""
     names = short([image.called for image in images])
     alike = [(image.number, image.like) for image in images if image.like is not None and not {image.number, image.like}.isdisjoint(word.images)]
     said = "hold the same data: which of them belongs there cannot be known"
@@ -102,12 +102,12 @@ def twins(word: Word, images: Sequence[Image]) -> list[str]:
 
 
 def best(order: Sequence[Candidate]) -> list[tuple[int, Candidate]]:
-    """The candidates, with their numbers, that have a rating, those with `++` first. One alone of those with the same volume."""
+    """Return the candidates, with their numbers, that have a rating, those with `++` first. One alone of those with the same volume."""
     return sorted(((number, it) for number, it in enumerate(order) if it.score >= Score.CHECKED and it.same is None), key=lambda pair: -pair[1].score)
 
 
 def encrypted(order: Sequence[Candidate]) -> list[tuple[int, Candidate]]:
-    """The candidates, with their numbers, whose volumes are encrypted, or have an encrypted part."""
+    """Return the candidates, with their numbers, whose volumes are encrypted, or have an encrypted part."""
     return [(number, it) for number, it in enumerate(order) if it.found.encrypted and it.score and it.same is None]
 
 

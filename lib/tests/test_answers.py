@@ -314,11 +314,11 @@ class Late(Disks):
         self.assertEqual(barely.kind if barely else None, Kind.LOST)
 
     def test_too_many_lost_by_copies_of_a_superblock(self) -> None:
-        """Superblocks that landmarks tell of say how long an XFS is: two at least, since a file may hold one."""
+        """Superblocks that landmarks tell of say how long an XFS is. If one says that it fits, that counts."""
         head = b"XFSB" + struct.pack(">IQ", 4096, 30000 // 8)
-        some = [self.image(0, (MIB, head)), self.image(1, (2 * MIB, head)), self.image(2)]
+        some = [self.image(0, (MIB, head)), self.image(1, (2 * MIB, b"XFSB" + struct.pack(">IQ", 4096, 8000 // 8))), self.image(2)]
         first, second = (0, 2048), (1, 4096)
-        for supers, kind in (((first, second), Kind.LOST), ((first,), None), ((first, (1, 2048)), None), ((), None), (((7, 8),), None)):
+        for supers, kind in (((first,), Kind.LOST), ((first, (1, 2048)), Kind.LOST), ((first, second), None), ((), None), (((7, 8),), None)):
             it = Answers(cast(Any, None), cast(Any, None), some, 1, supers)
             with mock.patch.object(homes, "all_homes", return_value=[]):
                 found = it.late(Told(asked=True), ())

@@ -79,10 +79,10 @@ def own_home(image: Image) -> Home | None:
 
 
 def copies(images: Iterable[Image], supers: Iterable[tuple[int, int]]) -> Iterator[Home]:
-    """Yield what superblocks say that landmarks tell of, each by its image and sector. One alone of an image may be of a file."""
+    """Yield what superblocks say that landmarks tell of, each by its image and sector."""
     there = {image.number: image for image in images}
-    found = [home for number, sector in supers if number in there and (home := home_at(there[number], sector))]
-    yield from (dataclasses.replace(home, is_copy=True) for home in found if sum(it.sectors == home.sectors for it in found) > 1)
+    found = (home_at(there[number], sector) for number, sector in supers if number in there)
+    yield from (dataclasses.replace(home, is_copy=True) for home in found if home)
 
 
 def too_long(images: Sequence[Image], supers: Iterable[tuple[int, int]] = ()) -> Home | None:

@@ -16,9 +16,9 @@ A clause for another constructor of `Command` or `Verb` is neither followed nor 
 
 - clauses by the name or the kind of an operand
 - the arguments of a function, as refusals among those of `textless`; only fields of a record are left out by a scope
-- what both grammars of a file need: a refused argument is refused by the grammar of all commands, of which this follows one
 
-A list is too short by the meaning of the traits (`I.seen`, `K.gained`), of `Model` instances and of a field that is only used after a dot.
+A list is too short in two cases. It does not have the meaning of traits (`I.seen`, `K.gained`) and of `Model` instances. And a refused argument is
+refused by the grammar of all commands, of which a list has only that of its own.
 """
 
 import argparse

@@ -249,17 +249,6 @@ class OneSurvey(Here):
         fewer.seen(self.asked("ext"))
         self.assertEqual(runner.count("reraid survey"), 1)
 
-    def test_held_in_memory(self) -> None:
-        """What sparse images hold is kept in memory for a survey up to a bound, which leaves room in 1 GiB; beyond it the images themselves are
-        read."""
-        names = [sparse(name, self.END, {1 << 20: b"x" * MIB}) for name in "ab"]
-        for most, is_kept in ((2 * MIB, True), (2 * MIB - SECTOR, False)):
-            surveys, runner = self.surveys(names)
-            with mock.patch.object(surveying, "MAX_HELD", most):
-                surveys.seen(self.asked("ext"))
-            self.assertEqual(runner.asked[0][0][-2:] != names, is_kept)
-        self.assertLessEqual(surveying.MAX_HELD, 3 * GIB // 4)
-
     def test_small(self) -> None:
         """Images of 4 GiB are surveyed for what is asked."""
         surveys, runner = self.surveys([sparse(name, 100, {}) for name in "ab"])

@@ -9,14 +9,13 @@ from ..calls.commands import Runner, refused
 from ..calls.memory import direct
 from ..calls.plans import Group, Mark, Plan
 from ..calls.surveys import Kept, Request, Surveys
-from ..units import MIB, SECTOR
+from ..units import SECTOR
 from . import compact, extents, far, sampling
 from .compact import Parts
 from .filling import Flags
 
-# Of sparse images that hold one in so many of their bytes at most, only what they hold is surveyed, if all hold no more than so many bytes, which
-# are kept in memory meanwhile. Of others their holes are read too.
-PART_HELD, MAX_HELD = 4, 640 * MIB
+# Of sparse images that hold one in so many of their bytes at most, only what they hold is surveyed.
+PART_HELD = 4
 # A survey has at most so many landmarks, and groups, of each kind: where it has fewer, none were left out.
 MAX_MARKS, MAX_GROUPS = 4096, 32
 
@@ -89,7 +88,7 @@ class LargeSurveys(Surveys):
         """Return the plan of a survey of what the images hold, where that is little, and else of the images."""
         runs = padded(extents.held_by_any(self.names, asked.first, asked.end), asked.first, asked.end)
         held = SECTOR * sum(extents.total(extents.held(name, asked.first, asked.end)) for name in self.names)
-        if PART_HELD * extents.total(runs) > asked.end - asked.first or held > MAX_HELD:
+        if PART_HELD * extents.total(runs) > asked.end - asked.first or held > compact.MAX_BYTES:
             return self.asked(self.commands, self.names, asked, asked.first, asked.end)
         parts = Parts(runs or ((asked.first, asked.first + 1),))
         with compact.kept(self.names, parts) as names:

@@ -34,7 +34,7 @@ FIVE, SIX, LOST, NONE = Shape("5", 3), Shape("6", 4, 1), Shape("6", 5, 2), Shape
 
 def tested(score: Score, text: str = "5:ls:none:128:2048:0,1,2", row: int = 0) -> Any:
     """A candidate of this score, whose rows have so many bytes."""
-    return types.SimpleNamespace(score=score, word=read_word(text), found=types.SimpleNamespace(row=row))
+    return types.SimpleNamespace(score=score, since=None, word=read_word(text), found=types.SimpleNamespace(row=row))
 
 
 def search(images: int = 3, **values: Any) -> Search:
